@@ -1,16 +1,18 @@
 -- What it says that a byte is known as a code, and how the three kinds of status codes lie apart. Assumes nothing.
-use mathlib.Core.Path.{_≡_, refl}
+use mathlib.Core.Path.{_≡_, refl, sym, ap}
 use mathlib.Core.Bool.{Bool, true, false, cond}
 use Prim.Native.Nat.{ℕ}
 use native.Mathlib.Omega.{arith}
 use Rattle.std.specs.declared.option.Option.the-variants.{Some, None}
-use Rattle.codes.specs.Codes.{bareCode, detailedCode, complaintCode, isStatus, isDetailed, isComplaint}
+use Rattle.codes.specs.Codes.{bareCode, detailedCode, complaintCode, statusCode, codeDataCount, dataCount, isStatus, isDetailed, isComplaint}
 use Rattle.codes.specs.declared.status.BareCode.{BareCode}
 use Rattle.codes.specs.declared.status.BareCode.the-variants.{Idling, Accepting, Stacking, VendValid, Stacked, Returning, Disabled, Initializing, PowerUp, PowerUpWithBillInAcceptor, PowerUpWithBillInStacker, StackerFull, StackerOpen, JamInAcceptor, JamInStacker, Pause, Cheated}
 use Rattle.codes.specs.declared.status.DetailedCode.{DetailedCode}
 use Rattle.codes.specs.declared.status.DetailedCode.the-variants.{Escrow, Rejecting, Failure}
 use Rattle.codes.specs.declared.status.ComplaintCode.{ComplaintCode}
 use Rattle.codes.specs.declared.status.ComplaintCode.the-variants.{CommunicationError, InvalidCommand}
+use Rattle.codes.specs.declared.status.StatusCode.{StatusCode}
+use Rattle.codes.specs.declared.status.StatusCode.the-variants.{Bare, Detailed, Complaint}
 
 -- The byte passes the test, and is the code's.
 pub known-as : (test : Bool) (byte code : ℕ) → Some code ≡ cond test (Some byte) None → (test ≡ true) × (code ≡ byte)
@@ -48,3 +50,9 @@ detailed-tests Failure = (refl, refl, refl)
 pub complaint-tests : (code : ComplaintCode) → Tests (complaintCode code) false true
 complaint-tests CommunicationError = (refl, refl, refl)
 complaint-tests InvalidCommand = (refl, refl, refl)
+
+-- The two ways to count the data bytes of a code are one.
+pub counted : (code : StatusCode) → codeDataCount code ≡ dataCount (statusCode code)
+counted (Bare code) = sym (ap (λ t. cond t 1 0) (bare-tests code .1))
+counted (Detailed code) = sym (ap (λ t. cond t 1 0) (detailed-tests code .1))
+counted (Complaint code) = sym (ap (λ t. cond t 1 0) (complaint-tests code .1))

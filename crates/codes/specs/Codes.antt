@@ -2,7 +2,7 @@
 --
 --   isBare, isDetailed, isComplaint     the codes of statuses with no data, with one byte, and of complaints
 --   isStatus, isSetting                 the codes of statuses, complaints with them, and of settings
---   dataCount c                         how many data bytes go with a status code
+--   dataCount c, codeDataCount code     how many data bytes go with a status code, by its byte and by the code
 --   bareCode and its like               the byte of a code
 --   known is b                          b if it is such a code
 --
@@ -80,6 +80,11 @@ abbrev pub statusCode : StatusCode → ℕ
 statusCode (Bare c) = bareCode c
 statusCode (Detailed c) = detailedCode c
 statusCode (Complaint c) = complaintCode c
+
+abbrev pub codeDataCount : StatusCode → ℕ
+codeDataCount (Bare c) = 0
+codeDataCount (Detailed c) = 1
+codeDataCount (Complaint c) = 0
 
 abbrev pub settingCode : SettingCode → ℕ
 settingCode EnableDenominations = 0xc0

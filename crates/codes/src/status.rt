@@ -1,6 +1,6 @@
 // The codes by which a head tells its status, by how many data bytes go with them.
 ghost use mathlib.Core.Path.{_≡_};
-ghost use Rattle.codes.specs.Codes.{bareCode, detailedCode, complaintCode, statusCode, dataCount, isBare, isDetailed, isComplaint, isStatus, known};
+ghost use Rattle.codes.specs.Codes.{bareCode, detailedCode, complaintCode, statusCode, codeDataCount, isBare, isDetailed, isComplaint, isStatus, known};
 ghost use Rattle.std.specs.Options.{mapped};
 
 // A status that has no data.
@@ -130,7 +130,7 @@ impl StatusCode {
 
     // How many data bytes go with the code.
     pub fn data_count(self) -> usize
-        ensures { λ r. ⌜ r ≡ dataCount (statusCode self) ⌝ }
+        ensures { λ r. ⌜ r ≡ codeDataCount self ⌝ }
     {
         match self {
             StatusCode::Bare(_) => 0,
