@@ -1,7 +1,6 @@
 -- What a table holds.
 --
 --   tableHeld s          what is held for each head: its record, and nothing for a number that is no head's
---   recordAnswer s h     the record of head h: 21 if there is no such head
 --   fresh starts         what a table made of fourteen starts holds
 --   tableBeyond, tableWithin, tableAmounts
 --                        the facts that every ledger shows: nothing beyond the heads, the bound, the amounts
@@ -15,11 +14,8 @@ use lib.Dec.{leb, lit≤, lit<}
 use lib.ListN.{getD}
 use Rattle.std.proofs.shelf.Tests.{le-leb}
 use Rattle.std.specs.declared.option.Option.the-variants.{None}
-use Rattle.std.specs.declared.result.Result.{Result}
 use Rattle.ledger.specs.Held.{heads, Held, Heads, nothing, Within, Amount}
-use Rattle.ledger.specs.Answers.{question}
 use Rattle.ledger.specs.Starts.{accepted}
-use Rattle.ledger.specs.declared.LedgerFault.{LedgerFault}
 use Rattle.ledger.specs.declared.head_record.HeadRecord.{HeadRecord}
 use Rattle.ledger.specs.declared.table.Table.{Table}
 
@@ -35,9 +31,6 @@ heldIn e = record { promised = e .promised; credited = e .credited; places = e .
 
 abbrev pub tableHeld : Table → Heads
 tableHeld s h = heldIn (recordOf s h)
-
-abbrev pub recordAnswer : Table → ℕ → Result HeadRecord LedgerFault
-recordAnswer s h = question h (getD (s .records) h blank)
 
 -- a head that starts with so many places
 abbrev pub starting : ℕ → Held

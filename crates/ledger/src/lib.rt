@@ -11,7 +11,7 @@ use number::NumberDebug;
 use number::NumberPartialEq;
 use std::fmt;
 
-pub mod head_record;
+mod head_record;
 pub mod starts;
 pub mod table;
 
@@ -86,6 +86,17 @@ pub impl fmt::Display for StartFault as StartFaultDisplay {
             StartFault::AboveMost => write!(f, "{number}: a start is above 4,000"),
         }
     }
+}
+
+// The place of a head in fourteen.
+pub fn head_index(head: u8) -> Result<usize, LedgerFault>
+    ensures { λ r. ⌜ r ≡ question head head ⌝ }
+{
+    let index = head as usize;
+    if index >= HEADS {
+        return Err(LedgerFault::NoSuchHead(Number));
+    }
+    Ok(index)
 }
 
 // Whatever shows this meaning and keeps the bound is a ledger.

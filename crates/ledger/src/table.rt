@@ -2,11 +2,12 @@
 ghost use mathlib.Core.Path.{_≡_};
 ghost use Prim.Native.Nat.{ℕ, _+_, _-_, _*_, _<_, _≤_};
 ghost use lib.ListN.{getD, set};
-ghost use Rattle.ledger.specs.Tables.{tableHeld, recordAnswer, tableBeyond, tableWithin, tableAmounts, fresh};
+ghost use Rattle.ledger.specs.Tables.{tableHeld, tableBeyond, tableWithin, tableAmounts, fresh};
 use crate::HEADS;
 use crate::Ledger;
 use crate::LedgerFault;
 use crate::MOST_AMOUNT;
+use crate::head_index;
 use crate::head_record::HeadRecord;
 use crate::starts::accepted_starts;
 use number::Number;
@@ -37,17 +38,6 @@ impl Table {
         }
         Table { records }
     }
-
-    // The record of a head.
-    fn record(&self, head: u8) -> Result<HeadRecord, LedgerFault>
-        ensures { λ r. ⌜ r ≡ recordAnswer (now (self .entry)) head ⌝ }
-    {
-        let head = head as usize;
-        if head >= HEADS {
-            return Err(LedgerFault::NoSuchHead(Number));
-        }
-        Ok(self.records[head])
-    }
 }
 
 pub impl Ledger for Table as TableLedger {
@@ -68,19 +58,20 @@ pub impl Ledger for Table as TableLedger {
     ghost joins = { λ _ _ _ _ _. tt };
 
     fn promised(&self, head: u8) -> Result<Option<u32>, LedgerFault> {
-        Ok(self.record(head)?.promised)
+        Ok(self.records[head_index(head)?].promised)
     }
 
     fn credited(&self, head: u8) -> Result<u64, LedgerFault> {
-        Ok(self.record(head)?.credited)
+        Ok(self.records[head_index(head)?].credited)
     }
 
     fn places(&self, head: u8) -> Result<u16, LedgerFault> {
-        Ok(self.record(head)?.places)
+        Ok(self.records[head_index(head)?].places)
     }
 
     fn promise(&mut self, head: u8, amount: u32) -> Result<(), LedgerFault> {
-        let record = self.record(head)?;
+        let index = head_index(head)?;
+        let record = self.records[index];
         if amount == 0 || amount > MOST_AMOUNT {
             return Err(LedgerFault::BadAmount(Number));
         }
@@ -90,7 +81,7 @@ pub impl Ledger for Table as TableLedger {
         if record.places == 0 {
             return Err(LedgerFault::NoPlace(Number, 0));
         }
-        self.records[head as usize] = HeadRecord {
+        self.records[index] = HeadRecord {
             promised: Some(amount),
             credited: record.credited,
             places: record.places - 1,
@@ -99,11 +90,12 @@ pub impl Ledger for Table as TableLedger {
     }
 
     fn settle(&mut self, head: u8) -> Result<(), LedgerFault> {
-        let record = self.record(head)?;
+        let index = head_index(head)?;
+        let record = self.records[index];
         let Some(amount) = record.promised else {
             return Err(LedgerFault::NonePromised(Number));
         };
-        self.records[head as usize] = HeadRecord {
+        self.records[index] = HeadRecord {
             promised: None,
             credited: record.credited + u64::from(amount),
             places: record.places,
@@ -112,11 +104,12 @@ pub impl Ledger for Table as TableLedger {
     }
 
     fn give_back(&mut self, head: u8) -> Result<(), LedgerFault> {
-        let record = self.record(head)?;
+        let index = head_index(head)?;
+        let record = self.records[index];
         if let None = record.promised {
             return Err(LedgerFault::NonePromised(Number));
         }
-        self.records[head as usize] = HeadRecord {
+        self.records[index] = HeadRecord {
             promised: None,
             credited: record.credited,
             places: record.places + 1,
