@@ -1,6 +1,5 @@
 // The numbers that a table or a limit starts with, one for each head: first checked, then made into a ledger.
 ghost use mathlib.Core.Path.{_≡_};
-ghost use mathlib.Core.Bool.{cond};
 ghost use Prim.Native.Nat.{ℕ, _≤_};
 ghost use lib.Dec.{leb};
 ghost use lib.ListN.{getD};
