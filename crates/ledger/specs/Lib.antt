@@ -1,0 +1,5 @@
+pub mod Held
+pub mod Answers
+pub mod Laws
+pub mod Starts
+pub mod Tables
