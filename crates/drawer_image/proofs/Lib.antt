@@ -1,0 +1,4 @@
+pub mod Walks
+pub mod Earliest
+pub mod Sounds
+pub mod Judges

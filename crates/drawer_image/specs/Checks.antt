@@ -1,0 +1,68 @@
+-- The check of a drawer's bytes, and what each section of any bytes holds.
+--
+--   countFits k            k is 1 to 4,000
+--   longEnough bs k        the bytes are 98 × (k + 1)
+--   wrongField bs k        the place of the earliest bad field, else of the earliest promise that has no free field
+--   checked bs k           the check's answer
+--   sound bs b k           no field of the section of promise b is bad, and a promised amount has a free field
+--   sectionAt bs k h       what section h holds: what it says if it is sound, else nothing
+--
+-- Assumes nothing.
+use mathlib.Core.List.{List}
+use mathlib.Core.Bool.{Bool, cond, _&&_, not}
+use Prim.Native.Nat.{ℕ, zero, suc, _+_, _*_}
+use lib.Dec.{eqb, leb, ltb}
+use lib.ListN.{length}
+use Rattle.std.specs.Options.{isSome, orOther}
+use Rattle.std.specs.declared.option.Option.{Option}
+use Rattle.std.specs.declared.option.Option.the-variants.{Some, None}
+use Rattle.std.specs.declared.result.Result.{Result}
+use Rattle.std.specs.declared.result.Result.the-variants.{Ok, Err}
+use Rattle.number.specs.declared.Number.{Number}
+use Rattle.drawer_image.specs.declared.section.Section.{Section}
+use Rattle.drawer_image.specs.declared.fault.DrawerFault.{DrawerFault}
+use Rattle.drawer_image.specs.declared.fault.DrawerFault.the-variants.{BadCount, BadLength, BadField}
+use Rattle.drawer_image.specs.Sections.{promiseOf, badIn, unless, covered, sectionOf}
+
+abbrev pub countFits : ℕ → Bool
+countFits k = ltb 0 k && leb k 4000
+
+abbrev pub longEnough : List ℕ → ℕ → Bool
+longEnough bs k = eqb (length bs) (98 * (k + 1))
+
+abbrev pub sized : List ℕ → ℕ → Bool
+sized bs k = countFits k && longEnough bs k
+
+-- the first that f tells below n
+unfoldable pub earliest : (ℕ → Option ℕ) → ℕ → Option ℕ
+earliest f zero = None
+earliest f (suc n) = orOther (earliest f n) (f n)
+
+abbrev pub badOf : List ℕ → ℕ → ℕ → Option ℕ
+badOf bs k h = badIn bs (promiseOf k h) k
+
+abbrev pub uncoveredOf : List ℕ → ℕ → ℕ → Option ℕ
+uncoveredOf bs k h = unless (covered (sectionOf bs (promiseOf k h) k)) (promiseOf k h)
+
+abbrev pub wrongField : List ℕ → ℕ → Option ℕ
+wrongField bs k = orOther (earliest (badOf bs k) 14) (earliest (uncoveredOf bs k) 14)
+
+abbrev pub Answer : Type 0
+Answer = Result (Unit {0}) DrawerFault
+
+abbrev pub refusedAt : Option ℕ → Answer
+refusedAt None = Ok tt
+refusedAt (Some place) = Err (BadField (record {}) place)
+
+abbrev pub checked : List ℕ → ℕ → Answer
+checked bs k =
+    cond (countFits k) (cond (longEnough bs k) (refusedAt (wrongField bs k)) (Err (BadLength (record {})))) (Err (BadCount (record {})))
+
+abbrev pub nothing : Section
+nothing = record { promised = 0; credited = 0; free = 0 }
+
+abbrev pub sound : List ℕ → ℕ → ℕ → Bool
+sound bs b k = not (isSome (badIn bs b k)) && covered (sectionOf bs b k)
+
+unfoldable pub sectionAt : List ℕ → ℕ → ℕ → Section
+sectionAt bs k h = cond (leb h 13 && (sized bs k && sound bs (promiseOf k h) k)) (sectionOf bs (promiseOf k h) k) nothing
