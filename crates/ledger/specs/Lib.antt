@@ -1,0 +1,4 @@
+pub mod Held
+pub mod Answers
+pub mod Starts
+pub mod Tables
