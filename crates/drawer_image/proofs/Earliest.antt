@@ -9,10 +9,11 @@ use Rattle.std.specs.declared.option.Option.{Option}
 use Rattle.std.specs.declared.option.Option.the-variants.{Some, None}
 use Rattle.std.specs.Options.{orOther}
 use Rattle.std.proofs.shelf.Tests.{cases-eq}
+use Rattle.ledger.specs.Held.{heads}
 use Rattle.drawer_image.specs.Checks.{earliest}
 
-pub room : (k h n : ℕ) → h ≤ 13 → n ≡ 98 * (k + 1) → 7 * ((k + 1) * h + k) + 7 ≤ n
-room k h n le e = omega (arith, mul-le-mul-left (k + 1) le)
+pub room : (k h n : ℕ) → h < heads → n ≡ 98 * (k + 1) → 7 * ((k + 1) * h + k) + 7 ≤ n
+room k h n lt e = let le : h ≤ 13 = omega arith in omega (arith, mul-le-mul-left (k + 1) le)
 
 pub earliest-none : (f : ℕ → Option ℕ) → earliest f 0 ≡ None
 unfolding earliest

@@ -8,6 +8,8 @@ use native.Mathlib.Nat.{mul-add, mul-le-mul-left}
 use native.Mathlib.Omega.{arith}
 use lib.Dec.{eqb, leb, ltb}
 use lib.ListN.{length}
+use Rattle.ledger.specs.Held.{heads, mostPlaces}
+use Rattle.ledger.specs.Answers.{itsNumber}
 use Rattle.std.proofs.shelf.Tests.{and-parts, and-from, or-cases, or-parts, or-from, or-left, or-right, eq-eqb, ne-eqb, lt-ltb, le-ltb, le-leb, eqb-true, eqb-false, ltb-true, ltb-false, leb-true, both-ways, cases-order, cases-eq}
 use Rattle.std.specs.Options.{orOther}
 use Rattle.std.specs.declared.option.Option.{Option}
@@ -109,9 +111,9 @@ earlier k g i h j le lt =
     (λ (m : h < g). absurd (let n : h + 1 ≤ g = omega arith in omega (arith, mul-le-mul-left (k + 1) n, mul-add (k + 1) h 1))) o)
     (cases-order g h)
 
-earliest-bad : (bs : List ℕ) (k place : ℕ) → earliest (badOf bs k) 14 ≡ Some place → EarliestBad bs k place
+earliest-bad : (bs : List ℕ) (k place : ℕ) → earliest (badOf bs k) heads ≡ Some place → EarliestBad bs k place
 earliest-bad bs k place e =
-    let s = earliest-first (badOf bs k) 14 place e in
+    let s = earliest-first (badOf bs k) heads place e in
     let f = found bs (promiseOf k (s .at)) k place (s .told) in
     record {
       head = s .at;
@@ -142,9 +144,9 @@ uncovered-by bs k h u =
 is-covered : (bs : List ℕ) (k h : ℕ) → uncoveredOf bs k h ≡ None → Uncovered bs k h → ⊥
 is-covered bs k h e u = both-ways (covered (sectionOf bs (promiseOf k h) k)) (uncovered-by bs k h u) (well (covered (sectionOf bs (promiseOf k h) k)) (promiseOf k h) e)
 
-earliest-uncovered : (bs : List ℕ) (k place : ℕ) → earliest (uncoveredOf bs k) 14 ≡ Some place → EarliestUncovered bs k place
+earliest-uncovered : (bs : List ℕ) (k place : ℕ) → earliest (uncoveredOf bs k) heads ≡ Some place → EarliestUncovered bs k place
 earliest-uncovered bs k place e =
-    let s = earliest-first (uncoveredOf bs k) 14 place e in
+    let s = earliest-first (uncoveredOf bs k) heads place e in
     let p = ill (covered (sectionOf bs (promiseOf k (s .at)) k)) (promiseOf k (s .at)) place (s .told) in
     record {
       head = s .at;
@@ -154,21 +156,21 @@ earliest-uncovered bs k place e =
       before = λ h lt. is-covered bs k h (s .before h lt);
     }
 
-all-allowed : (bs : List ℕ) (k : ℕ) → earliest (badOf bs k) 14 ≡ None → AllAllowed bs k
-all-allowed bs k e h i le li = good-each bs (promiseOf k h) k (earliest-each (badOf bs k) 14 e h (omega arith)) i li
+all-allowed : (bs : List ℕ) (k : ℕ) → earliest (badOf bs k) heads ≡ None → AllAllowed bs k
+all-allowed bs k e h i le li = good-each bs (promiseOf k h) k (earliest-each (badOf bs k) heads e h (omega arith)) i li
 
 count-fits : (k : ℕ) → Counted k → countFits k ≡ true
-count-fits k c = and-from (ltb 0 k) (leb k 4000) (lt-ltb 0 k (c .0)) (le-leb k 4000 (c .1))
+count-fits k c = and-from (ltb 0 k) (leb k mostPlaces) (lt-ltb 0 k (c .0)) (le-leb k mostPlaces (c .1))
 
 fits-count : (k : ℕ) → countFits k ≡ true → Counted k
-fits-count k e = let p = and-parts (ltb 0 k) (leb k 4000) e in (ltb-true 0 k (p .0), leb-true k 4000 (p .1))
+fits-count k e = let p = and-parts (ltb 0 k) (leb k mostPlaces) e in (ltb-true 0 k (p .0), leb-true k mostPlaces (p .1))
 
 -- the whole of it
 pub judged : (bs : List ℕ) (k : ℕ) → Judged bs k (checked bs k)
-judged bs k = go (countFits k) refl (longEnough bs k) refl (earliest (badOf bs k) 14) refl (earliest (uncoveredOf bs k) 14) refl
+judged bs k = go (countFits k) refl (longEnough bs k) refl (earliest (badOf bs k) heads) refl (earliest (uncoveredOf bs k) heads) refl
   where
-    go : (x : Bool) → countFits k ≡ x → (y : Bool) → longEnough bs k ≡ y → (o : Option ℕ) → earliest (badOf bs k) 14 ≡ o → (q : Option ℕ) → earliest (uncoveredOf bs k) 14 ≡ q
-        → Judged bs k (cond x (cond y (refusedAt (orOther o q)) (Err (BadLength (record {})))) (Err (BadCount (record {}))))
+    go : (x : Bool) → countFits k ≡ x → (y : Bool) → longEnough bs k ≡ y → (o : Option ℕ) → earliest (badOf bs k) heads ≡ o → (q : Option ℕ) → earliest (uncoveredOf bs k) heads ≡ q
+        → Judged bs k (cond x (cond y (refusedAt (orOther o q)) (Err (BadLength itsNumber))) (Err (BadCount itsNumber)))
     go false ex y ey o eo q eq = λ c. both-ways (countFits k) ex (count-fits k c)
     go true ex false ey o eo q eq = (fits-count k ex, λ (l : Long bs k). both-ways (longEnough bs k) ey (eq-eqb (length bs) (98 * (k + 1)) l))
     go true ex true ey (Some place) eo q eq = (fits-count k ex, eqb-true (length bs) (98 * (k + 1)) ey, inl (earliest-bad bs k place eo))
@@ -178,5 +180,5 @@ judged bs k = go (countFits k) refl (longEnough bs k) refl (earliest (badOf bs k
           counted = fits-count k ex;
           long = eqb-true (length bs) (98 * (k + 1)) ey;
           allowed = all-allowed bs k eo;
-          covered = λ h le. is-covered bs k h (earliest-each (uncoveredOf bs k) 14 eq h (omega arith));
+          covered = λ h le. is-covered bs k h (earliest-each (uncoveredOf bs k) heads eq h (omega arith));
         }

@@ -2,3 +2,4 @@ pub mod Walks
 pub mod Earliest
 pub mod Sounds
 pub mod Judges
+pub mod Lawful

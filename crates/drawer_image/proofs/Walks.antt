@@ -12,6 +12,7 @@ use Rattle.std.proofs.shelf.Ways.{tells}
 use Rattle.std.specs.Options.{orOther}
 use Rattle.std.specs.declared.option.Option.{Option}
 use Rattle.std.specs.declared.option.Option.the-variants.{Some, None}
+use Rattle.ledger.specs.Held.{mostAmount}
 use Rattle.drawer_image.specs.Fields.{tagAt, lengthAt, amountAt, headed, isPromise, isSettled, isFree}
 use Rattle.std.specs.declared.result.Result.{Result}
 use Rattle.std.specs.declared.result.Result.the-variants.{Ok, Err}
@@ -56,7 +57,7 @@ bad-stays bs b n (suc d) j e =
     ap (badIn bs b) z ∙ ap (λ o. orOther o (unless (allowed bs b (n + d)) (b + suc (n + d)))) (bad-stays bs b n d j e)
 
 -- a settled bill is no free field, and at most the largest amount
-pub settled-most : (bs : List ℕ) (j : ℕ) → isSettled bs j ≡ true → amountAt bs j ≤ 255000000
+pub settled-most : (bs : List ℕ) (j : ℕ) → isSettled bs j ≡ true → amountAt bs j ≤ mostAmount
 unfolding isSettled
 settled-most bs j e = grind (arith, tells)
 

@@ -18,14 +18,15 @@ use Rattle.std.specs.declared.option.Option.{Option}
 use Rattle.std.specs.declared.option.Option.the-variants.{Some, None}
 use Rattle.std.specs.declared.result.Result.{Result}
 use Rattle.std.specs.declared.result.Result.the-variants.{Ok, Err}
-use Rattle.number.specs.declared.Number.{Number}
+use Rattle.ledger.specs.Held.{heads, mostPlaces}
+use Rattle.ledger.specs.Answers.{itsNumber}
 use Rattle.drawer_image.specs.declared.section.Section.{Section}
 use Rattle.drawer_image.specs.declared.fault.DrawerFault.{DrawerFault}
 use Rattle.drawer_image.specs.declared.fault.DrawerFault.the-variants.{BadCount, BadLength, BadField}
 use Rattle.drawer_image.specs.Sections.{promiseOf, badIn, unless, covered, sectionOf}
 
 abbrev pub countFits : ℕ → Bool
-countFits k = ltb 0 k && leb k 4000
+countFits k = ltb 0 k && leb k mostPlaces
 
 abbrev pub longEnough : List ℕ → ℕ → Bool
 longEnough bs k = eqb (length bs) (98 * (k + 1))
@@ -45,24 +46,24 @@ abbrev pub uncoveredOf : List ℕ → ℕ → ℕ → Option ℕ
 uncoveredOf bs k h = unless (covered (sectionOf bs (promiseOf k h) k)) (promiseOf k h)
 
 abbrev pub wrongField : List ℕ → ℕ → Option ℕ
-wrongField bs k = orOther (earliest (badOf bs k) 14) (earliest (uncoveredOf bs k) 14)
+wrongField bs k = orOther (earliest (badOf bs k) heads) (earliest (uncoveredOf bs k) heads)
 
 abbrev pub Answer : Type 0
 Answer = Result (Unit {0}) DrawerFault
 
 abbrev pub refusedAt : Option ℕ → Answer
 refusedAt None = Ok tt
-refusedAt (Some place) = Err (BadField (record {}) place)
+refusedAt (Some place) = Err (BadField itsNumber place)
 
 abbrev pub checked : List ℕ → ℕ → Answer
 checked bs k =
-    cond (countFits k) (cond (longEnough bs k) (refusedAt (wrongField bs k)) (Err (BadLength (record {})))) (Err (BadCount (record {})))
+    cond (countFits k) (cond (longEnough bs k) (refusedAt (wrongField bs k)) (Err (BadLength itsNumber))) (Err (BadCount itsNumber))
 
-abbrev pub nothing : Section
-nothing = record { promised = 0; credited = 0; free = 0 }
+abbrev pub emptySection : Section
+emptySection = record { promised = 0; credited = 0; free = 0 }
 
 abbrev pub sound : List ℕ → ℕ → ℕ → Bool
 sound bs b k = not (isSome (badIn bs b k)) && covered (sectionOf bs b k)
 
 unfoldable pub sectionAt : List ℕ → ℕ → ℕ → Section
-sectionAt bs k h = cond (leb h 13 && (sized bs k && sound bs (promiseOf k h) k)) (sectionOf bs (promiseOf k h) k) nothing
+sectionAt bs k h = cond (ltb h heads && (sized bs k && sound bs (promiseOf k h) k)) (sectionOf bs (promiseOf k h) k) emptySection

@@ -14,6 +14,7 @@ use mathlib.Core.Bool.{Bool, _&&_}
 use Prim.Native.Nat.{ℕ, _+_, _*_}
 use lib.Dec.{eqb, leb}
 use lib.ListN.{getD}
+use Rattle.ledger.specs.Held.{mostAmount}
 
 abbrev pub tagAt : List ℕ → ℕ → ℕ
 tagAt bs j = getD bs (7 * j) 0
@@ -32,10 +33,10 @@ abbrev pub headed : List ℕ → ℕ → ℕ → Bool
 headed bs j t = eqb (tagAt bs j) t && eqb (lengthAt bs j) 4
 
 unfoldable pub isPromise : List ℕ → ℕ → Bool
-isPromise bs j = headed bs j 0x50 && leb (amountAt bs j) 255000000
+isPromise bs j = headed bs j 0x50 && leb (amountAt bs j) mostAmount
 
 unfoldable pub isSettled : List ℕ → ℕ → Bool
-isSettled bs j = headed bs j 0x43 && (leb 1 (amountAt bs j) && leb (amountAt bs j) 255000000)
+isSettled bs j = headed bs j 0x43 && (leb 1 (amountAt bs j) && leb (amountAt bs j) mostAmount)
 
 unfoldable pub isFree : List ℕ → ℕ → Bool
 isFree bs j = headed bs j 0x00 && eqb (amountAt bs j) 0

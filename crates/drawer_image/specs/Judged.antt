@@ -15,6 +15,7 @@ use mathlib.Core.List.{List}
 use mathlib.Core.Logic.{_⊎_}
 use Prim.Native.Nat.{ℕ, zero, suc, _+_, _*_, _<_, _≤_}
 use lib.ListN.{length}
+use Rattle.ledger.specs.Held.{heads, mostPlaces}
 use Rattle.std.specs.declared.result.Result.the-variants.{Ok, Err}
 use Rattle.drawer_image.specs.declared.fault.DrawerFault.the-variants.{BadCount, BadLength, BadField}
 use Rattle.drawer_image.specs.Fields.{amountAt, isPromise, isSettled, isFree}
@@ -28,7 +29,7 @@ Allowed bs b (suc n) =
     (isFree bs (b + suc n) ≡ true) ⊎ ((isSettled bs (b + suc n) ≡ true) × ((i : ℕ) → i < n → isFree bs (b + suc i) ≡ false))
 
 abbrev pub AllAllowed : List ℕ → ℕ → Type 0
-AllAllowed bs k = (h i : ℕ) → h ≤ 13 → i ≤ k → Allowed bs (promiseOf k h) i
+AllAllowed bs k = (h i : ℕ) → h < heads → i ≤ k → Allowed bs (promiseOf k h) i
 
 abbrev pub Uncovered : List ℕ → ℕ → ℕ → Type 0
 Uncovered bs k h = (0 < amountAt bs (promiseOf k h)) × ((i : ℕ) → i < k → isFree bs (promiseOf k h + suc i) ≡ false)
@@ -36,21 +37,21 @@ Uncovered bs k h = (0 < amountAt bs (promiseOf k h)) × ((i : ℕ) → i < k →
 pub record EarliestBad (bs : List ℕ) (k place : ℕ) : Type 0 where
   pub head : ℕ
   pub position : ℕ
-  pub inside : (head ≤ 13) × (position ≤ k)
+  pub inside : (head < heads) × (position ≤ k)
   pub here : place ≡ 7 * (promiseOf k head + position)
   pub bad : Allowed bs (promiseOf k head) position → ⊥
   pub before : (h i : ℕ) → i ≤ k → promiseOf k h + i < promiseOf k head + position → Allowed bs (promiseOf k h) i
 
 pub record EarliestUncovered (bs : List ℕ) (k place : ℕ) : Type 0 where
   pub head : ℕ
-  pub inside : head ≤ 13
+  pub inside : head < heads
   pub here : place ≡ 7 * promiseOf k head
   pub uncovered : Uncovered bs k head
   pub before : (h : ℕ) → h < head → Uncovered bs k h → ⊥
 
 -- k is 1 to 4,000, and the bytes are those of 14 sections of k + 1 fields
 abbrev pub Counted : ℕ → Type 0
-Counted k = (0 < k) × (k ≤ 4000)
+Counted k = (0 < k) × (k ≤ mostPlaces)
 
 abbrev pub Long : List ℕ → ℕ → Type 0
 Long bs k = length bs ≡ 98 * (k + 1)
@@ -59,7 +60,7 @@ pub record Passing (bs : List ℕ) (k : ℕ) : Type 0 where
   pub counted : Counted k
   pub long : Long bs k
   pub allowed : AllAllowed bs k
-  pub covered : (h : ℕ) → h ≤ 13 → Uncovered bs k h → ⊥
+  pub covered : (h : ℕ) → h < heads → Uncovered bs k h → ⊥
 
 abbrev pub Judged : List ℕ → ℕ → Answer → Type 0
 Judged bs k (Ok done) = Passing bs k

@@ -1,20 +1,23 @@
 ghost use mathlib.Core.Path.{_≡_};
 ghost use Prim.Native.Nat.{ℕ, _+_, _-_, _*_, _<_, _≤_};
 ghost use lib.ListN.{length};
+ghost use Rattle.ledger.specs.Held.{mostPlaces};
 ghost use Rattle.drawer_image.specs.Checks.{wrongField, checked};
 ghost use Rattle.drawer_image.specs.Judged.{Judged};
 use crate::fault::DrawerFault;
 use crate::section::read_section;
+use ledger::HEADS;
+use ledger::MOST_PLACES;
 use number::Number;
 
 // The place of the earliest bad field, else of the earliest promise that has no free field.
 fn wrong_field(bytes: &[u8], bills: usize) -> Option<usize>
-    requires few { ⌜ bills ≤ 4000 ⌝ }
+    requires few { ⌜ bills ≤ mostPlaces ⌝ }
     requires sized { ⌜ length (now bytes) ≡ 98 * (bills + 1) ⌝ }
     ensures { λ r. ⌜ r ≡ wrongField (now (bytes .entry)) bills ⌝ }
 {
     let mut uncovered = None;
-    for head in 0..14 {
+    for head in 0..HEADS {
         let first = (bills + 1) * head;
         let section = match read_section(bytes, first, bills) {
             Ok(section) => section,
@@ -32,7 +35,7 @@ pub fn check(bytes: &[u8], bills: u16) -> Result<(), DrawerFault>
     ensures answer { λ r. ⌜ r ≡ checked (now (bytes .entry)) bills ⌝ }
     ensures judged { λ r. ⌜ Judged (now (bytes .entry)) bills r ⌝ }
 {
-    if bills == 0 || bills > 4000 {
+    if bills == 0 || bills > MOST_PLACES {
         return Err(DrawerFault::BadCount(Number));
     }
     let bills = bills as usize;

@@ -2,9 +2,7 @@ ghost use mathlib.Core.Path.{_≡_};
 ghost use Prim.Native.Nat.{ℕ, _+_, _*_, _≤_};
 ghost use lib.ListN.{length};
 ghost use Rattle.drawer_image.specs.Fields.{headed, amountAt, isPromise, isSettled, isFree};
-
-// The largest amount of a bill.
-const LARGEST: u32 = 255_000_000;
+use ledger::MOST_AMOUNT;
 
 // The amount of a field.
 pub fn amount(bytes: &[u8], field: usize) -> u32
@@ -29,7 +27,7 @@ pub fn is_promise(bytes: &[u8], field: usize) -> bool
     requires { ⌜ 7 * field + 7 ≤ length (now bytes) ⌝ }
     ensures { λ r. ⌜ r ≡ isPromise (now (bytes .entry)) field ⌝ }
 {
-    is_headed(bytes, field, 0x50) && amount(bytes, field) <= LARGEST
+    is_headed(bytes, field, 0x50) && amount(bytes, field) <= MOST_AMOUNT
 }
 
 // Whether a field is a settled bill.
@@ -38,7 +36,7 @@ pub fn is_settled(bytes: &[u8], field: usize) -> bool
     ensures { λ r. ⌜ r ≡ isSettled (now (bytes .entry)) field ⌝ }
 {
     let amount = amount(bytes, field);
-    is_headed(bytes, field, 0x43) && 1 <= amount && amount <= LARGEST
+    is_headed(bytes, field, 0x43) && 1 <= amount && amount <= MOST_AMOUNT
 }
 
 // Whether a field is free for a bill.

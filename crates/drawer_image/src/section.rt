@@ -1,12 +1,15 @@
 ghost use mathlib.Core.Path.{_≡_};
 ghost use Prim.Native.Nat.{ℕ, _+_, _-_, _*_, _<_, _≤_};
 ghost use lib.ListN.{length};
+ghost use Rattle.ledger.specs.Held.{mostPlaces};
 ghost use Rattle.drawer_image.specs.Sections.{badIn, sectionOf, readOf, covered, promisedIn, placesIn};
 ghost use Rattle.drawer_image.specs.Checks.{sized, sectionAt};
 use crate::field::amount;
 use crate::field::is_free;
 use crate::field::is_promise;
 use crate::field::is_settled;
+use ledger::HEADS;
+use ledger::MOST_PLACES;
 
 // What a section says: the promised amount, 0 for none, the sum of its settled bills, and how many of its
 // fields are free.
@@ -50,7 +53,7 @@ impl Section {
 
 // What the section says whose promise is the field `first`, or the place of its earliest bad field.
 pub(crate) fn read_section(bytes: &[u8], first: usize, bills: usize) -> Result<Section, usize>
-    requires few { ⌜ bills ≤ 4000 ⌝ }
+    requires few { ⌜ bills ≤ mostPlaces ⌝ }
     requires room { ⌜ 7 * (first + bills) + 7 ≤ length (now bytes) ⌝ }
     ensures { λ r. ⌜ r ≡ readOf (badIn (now (bytes .entry)) first bills) (sectionOf (now (bytes .entry)) first bills) ⌝ }
 {
@@ -79,7 +82,7 @@ pub(crate) fn read_section(bytes: &[u8], first: usize, bills: usize) -> Result<S
 fn is_sized(bytes: &[u8], bills: u16) -> bool
     ensures { λ r. ⌜ r ≡ sized (now (bytes .entry)) bills ⌝ }
 {
-    0 < bills && bills <= 4000 && bytes.len() == 98 * (bills as usize + 1)
+    0 < bills && bills <= MOST_PLACES && bytes.len() == 98 * (bills as usize + 1)
 }
 
 // What the section of a head holds: nothing where the section would not pass the check, or there is no such head.
@@ -91,7 +94,7 @@ pub fn section_of(bytes: &[u8], bills: u16, head: u8) -> Section
         credited: 0,
         free: 0,
     };
-    if head > 13 {
+    if head as usize >= HEADS {
         return nothing;
     }
     if !is_sized(bytes, bills) {

@@ -2,6 +2,7 @@ use borrow.Author.Needs.{needs}
 use mathlib.Core.Path.{_≡_, sym, subst}
 use Rattle.std.specs.declared.result.Result.the-variants.{Ok, Err}
 use Rattle.drawer_image.specs.declared.fault.DrawerFault.the-variants.{BadField}
+use Rattle.ledger.specs.Answers.{itsNumber}
 use Rattle.drawer_image.specs.Checks.{Answer, checked}
 use Rattle.drawer_image.specs.Judged.{Judged}
 use Rattle.drawer_image.proofs.Judges.{judged}
@@ -16,5 +17,5 @@ returns-in-None c =
 pub returns-in-Some : need.returns-in-Some
 returns-in-Some c =
     let bs = c .args .bytes .now in
-    let answer : _≡_ {A = Answer} (Err (BadField (record {}) (c .in-Some .place))) (checked bs (c .args .bills)) = search needs in
+    let answer : _≡_ {A = Answer} (Err (BadField itsNumber (c .in-Some .place))) (checked bs (c .args .bills)) = search needs in
     record { answer = answer; judged = subst (Judged bs (c .args .bills)) (sym answer) (judged bs (c .args .bills)) }

@@ -5,6 +5,7 @@ use mathlib.Core.Bool.{Bool, true, false}
 use native.Mathlib.Omega.{arith}
 use Rattle.std.specs.Options.{orOther}
 use Rattle.std.specs.declared.option.Option.the-variants.{Some, None}
+use Rattle.ledger.specs.Held.{heads}
 use Rattle.drawer_image.specs.Sections.{covered, unless, sectionOf}
 use Rattle.drawer_image.specs.Checks.{earliest, badOf, uncoveredOf}
 use Rattle.drawer_image.proofs.Walks.{read-ok, read-err}
@@ -25,7 +26,7 @@ returns-in-Err c =
     let h = c .loop-head .head in
     let here = read-err (badOf bs k h) (sectionOf bs ((k + 1) * h) k) (c .in-Err .place) (c .in-Err .ensures tt) in
     let one = earliest-more (badOf bs k) h ∙ ap₂ orOther (c .loop-head .inv .0) here in
-    ap (λ o. orOther o (earliest (uncoveredOf bs k) 14)) (sym (earliest-by (badOf bs k) (h + 1) 14 (c .in-Err .place) one (omega arith)))
+    ap (λ o. orOther o (earliest (uncoveredOf bs k) heads)) (sym (earliest-by (badOf bs k) (h + 1) heads (c .in-Err .place) one (omega arith)))
 
 pub loop-head-again : need.loop-head-again
 loop-head-again c =

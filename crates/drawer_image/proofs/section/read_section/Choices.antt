@@ -1,6 +1,7 @@
 use mathlib.Core.Path.{_≡_}
 use Prim.Native.Nat.{_≤_, _*_}
 use Rattle.std.specs.declared.option.Option.the-variants.{None}
+use Rattle.ledger.specs.Held.{mostAmount}
 use Rattle.drawer_image.specs.Sections.{freeIn, creditedIn, badIn}
 use Rattle.drawer_image.proofs.section.read_section.Given as given
 
@@ -10,4 +11,4 @@ Inv-loop-i l =
     × (l .free ≡ freeIn (l .bytes) (l .first) (l .i))
     × (l .credited ≡ creditedIn (l .bytes) (l .first) (l .i))
     × (l .free ≤ l .i)
-    × (l .credited ≤ 255000000 * l .i)
+    × (l .credited ≤ mostAmount * l .i)

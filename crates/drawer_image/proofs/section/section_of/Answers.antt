@@ -7,8 +7,8 @@ use Rattle.drawer_image.proofs.Earliest.{room}
 use Rattle.drawer_image.proofs.Sounds.{is-sized, section-sound, unsized-none, headless-none, bad-none, bare-none}
 use Rattle.drawer_image.proofs.section.section_of.Needs as need
 
-pub returns-then-head-gt13 : need.returns-then-head-gt13
-returns-then-head-gt13 c = sym (headless-none (c .args .bytes .now) (c .args .bills) (c .args .head) (c .if-head-gt13 .taken))
+pub returns-then-head-ge-HEADS : need.returns-then-head-ge-HEADS
+returns-then-head-ge-HEADS c = sym (headless-none (c .args .bytes .now) (c .args .bills) (c .args .head) (c .if-head-ge-HEADS .taken))
 
 pub returns-then-not-is-sized : need.returns-then-not-is-sized
 returns-then-not-is-sized c = sym (unsized-none (c .args .bytes .now) (c .args .bills) (c .args .head) (sym (c .if-not-is-sized .ensures tt)))
@@ -16,7 +16,7 @@ returns-then-not-is-sized c = sym (unsized-none (c .args .bytes .now) (c .args .
 pub read-section-requires : need.read-section-requires
 read-section-requires c κs =
     let z = is-sized (c .args .bytes .now) (c .args .bills) (sym (c .if-not-is-sized .ensures tt)) in
-    record { few = z .few; room = room (c .args .bills) (c .args .head) _ (c .if-head-gt13 .left) (z .long) }
+    record { few = z .few; room = room (c .args .bills) (c .args .head) _ (c .if-head-ge-HEADS .left) (z .long) }
 
 pub returns-then-is-covered : need.returns-then-is-covered
 returns-then-is-covered c =
@@ -25,7 +25,7 @@ returns-then-is-covered c =
     let h = c .args .head in
     let z = is-sized bs k (sym (c .if-not-is-sized .ensures tt)) in
     let got = read-ok (badIn bs (promiseOf k h) k) (sectionOf bs (promiseOf k h) k) (c .in-Ok .section) (c .in-Ok .ensures tt) in
-    got .1 ∙ sym (section-sound bs k h (c .if-head-gt13 .left) z (record { good = got .0; backs = sym (ap covered (got .1)) ∙ sym (c .if-is-covered .ensures tt) }))
+    got .1 ∙ sym (section-sound bs k h (c .if-head-ge-HEADS .left) z (record { good = got .0; backs = sym (ap covered (got .1)) ∙ sym (c .if-is-covered .ensures tt) }))
 
 pub returns-else-is-covered : need.returns-else-is-covered
 returns-else-is-covered c =
