@@ -24,7 +24,7 @@ use Rattle.drawer_image.specs.Judged.{Allowed, AllAllowed, Uncovered, Earliest
 use Rattle.drawer_image.proofs.Earliest.{earliest-each, First, earliest-first}
 
 -- no free field among n
-free-zero : (bs : List ℕ) (b n : ℕ) → freeIn bs b n ≡ 0 → (i : ℕ) → i < n → isFree bs (b + suc i) ≡ false
+pub free-zero : (bs : List ℕ) (b n : ℕ) → freeIn bs b n ≡ 0 → (i : ℕ) → i < n → isFree bs (b + suc i) ≡ false
 unfolding freeIn
 free-zero bs b zero e i lt = absurd (omega arith)
 free-zero bs b (suc n) e i lt =

@@ -3,3 +3,4 @@ pub mod Earliest
 pub mod Sounds
 pub mod Judges
 pub mod Lawful
+pub mod Passed

@@ -4,10 +4,12 @@
 --   longEnough bs k        the bytes are 98 × (k + 1)
 --   wrongField bs k        the place of the earliest bad field, else of the earliest promise that has no free field
 --   checked bs k           the check's answer
+--   Passes bs k            the bytes pass the check
 --   sound bs b k           no field of the section of promise b is bad, and a promised amount has a free field
 --   sectionAt bs k h       what section h holds: what it says if it is sound, else nothing
 --
 -- Assumes nothing.
+use mathlib.Core.Path.{_≡_}
 use mathlib.Core.List.{List}
 use mathlib.Core.Bool.{Bool, cond, _&&_, not}
 use Prim.Native.Nat.{ℕ, zero, suc, _+_, _*_}
@@ -59,6 +61,10 @@ abbrev pub checked : List ℕ → ℕ → Answer
 checked bs k =
     cond (countFits k) (cond (longEnough bs k) (refusedAt (wrongField bs k)) (Err (BadLength itsNumber))) (Err (BadCount itsNumber))
 
+abbrev pub Passes : List ℕ → ℕ → Type 0
+Passes bs k = checked bs k ≡ Ok tt
+
+-- a section that says nothing
 abbrev pub emptySection : Section
 emptySection = record { promised = 0; credited = 0; free = 0 }
 
