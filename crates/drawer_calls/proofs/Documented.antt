@@ -1,0 +1,26 @@
+-- What the bytes of a drawer are documented to hold after calls on it. Assumes nothing.
+use mathlib.Core.Path.{_≡_, sym, ap, _∙_}
+use mathlib.Core.List.{List}
+use mathlib.Core.Bool.{true, cond}
+use Prim.Native.Nat.{ℕ}
+use Rattle.std.proofs.shelf.Tests.{cond-true}
+use Rattle.std.specs.Results.{isOk}
+use Rattle.std.specs.declared.result.Result.the-variants.{Ok}
+use Rattle.ledger.specs.Held.{Heads, nothing}
+use Rattle.drawer_image.specs.Checks.{Answer, checked, Passes}
+use Rattle.drawer.specs.Meaning.{documented, bytesHeld, made}
+use Rattle.drawer.proofs.Checks.{holds-documented}
+use Rattle.drawer_calls.specs.declared.calls.Call.{Call}
+use Rattle.drawer_calls.specs.Played.{playedAfter}
+
+-- the drawer made of bs, with i fields for bills, held t; after the calls it is in ds, with j of them
+pub played-documented : (bs cs ds : List ℕ) (k i j : ℕ) (t : Heads) (calls : List Call)
+    → i ≡ cond (isOk (checked bs k)) k 0 → t ≡ made bs k → j ≡ i → bytesHeld ds j ≡ playedAfter t calls
+    → cs ≡ ds → (Passes bs k → Passes cs k) → Passes bs k → documented cs k ≡ playedAfter (documented bs k) calls
+played-documented bs cs ds k i j t calls bills held same after back passes e =
+    let ok = ap (λ (r : Answer). isOk r) e in
+    sym (holds-documented cs k (passes e))
+    ∙ ap (λ x. bytesHeld x k) back
+    ∙ ap (bytesHeld ds) (sym (same ∙ bills ∙ cond-true (isOk (checked bs k)) k 0 ok))
+    ∙ after
+    ∙ ap (λ x. playedAfter x calls) (held ∙ cond-true (isOk (checked bs k)) (documented bs k) (λ h. nothing) ok)
