@@ -4,21 +4,15 @@
 --   repeated n xs        n times xs, one after the other
 --   freshSection k       a promise of nothing, and k free fields
 --   freshBytes k         fourteen such sections
---   freshAnswer n k      the answer where the buffer has n bytes: 26, 27, else done
 --   HoldsFresh bs k      bytes that pass the check, with k places and nothing promised or credited for each head
 --
 -- Assumes nothing.
 use mathlib.Core.Path.{_≡_}
 use mathlib.Core.List.{List, [], _∷_, _++_}
-use mathlib.Core.Bool.{cond}
-use Prim.Native.Nat.{ℕ, zero, suc, _+_, _*_, _<_}
-use lib.Dec.{eqb}
+use Prim.Native.Nat.{ℕ, zero, suc, _<_}
 use Rattle.std.specs.declared.option.Option.the-variants.{None}
-use Rattle.std.specs.declared.result.Result.the-variants.{Ok, Err}
 use Rattle.ledger.specs.Held.{heads}
-use Rattle.ledger.specs.Answers.{itsNumber}
-use Rattle.drawer_image.specs.declared.fault.DrawerFault.the-variants.{BadCount, BadLength}
-use Rattle.drawer_image.specs.Checks.{Answer, countFits, Passes}
+use Rattle.drawer_image.specs.Checks.{Passes}
 use Rattle.drawer.specs.Meaning.{documented}
 
 abbrev pub emptyField : ℕ → List ℕ
@@ -33,9 +27,6 @@ freshSection k = emptyField 0x50 ++ repeated k (emptyField 0x00)
 
 abbrev pub freshBytes : ℕ → List ℕ
 freshBytes k = repeated heads (freshSection k)
-
-abbrev pub freshAnswer : ℕ → ℕ → Answer
-freshAnswer n k = cond (countFits k) (cond (eqb n (98 * (k + 1))) (Ok tt) (Err (BadLength itsNumber))) (Err (BadCount itsNumber))
 
 pub record HoldsFresh (bs : List ℕ) (k : ℕ) : Type 0 where
   pub passes : Passes bs k

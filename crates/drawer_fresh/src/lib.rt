@@ -6,11 +6,11 @@ ghost use Prim.Native.Nat.{ℕ, _+_, _*_, _<_, _≤_};
 ghost use lib.ListN.{length, take};
 ghost use Rattle.std.specs.Results.{isOk, Cases};
 ghost use Rattle.ledger.specs.Held.{mostPlaces};
-ghost use Rattle.drawer_fresh.specs.Fresh.{emptyField, freshSection, freshBytes, freshAnswer, HoldsFresh};
+ghost use Rattle.drawer_image.specs.Checks.{sizeAnswer};
+ghost use Rattle.drawer_fresh.specs.Fresh.{emptyField, freshSection, freshBytes, HoldsFresh};
 use drawer_image::fault::DrawerFault;
+use drawer_image::size::check_size;
 use ledger::HEADS;
-use ledger::MOST_PLACES;
-use number::Number;
 
 // Writes a field with this tag, the length 4 and the amount 0. What stands behind it is not spoken of.
 fn put_empty(bytes: &mut [u8], field: usize, tag: u8)
@@ -36,17 +36,12 @@ fn put_section(bytes: &mut [u8], first: usize, bills: usize)
 // Makes bytes a drawer with so many fields for bills in each section, in which nothing is promised and every
 // field is free. Where the check would refuse the number or the length, the bytes stay as they are.
 pub fn write_fresh(bytes: &mut [u8], bills: u16) -> Result<(), DrawerFault>
-    ensures answer { λ r. ⌜ r ≡ freshAnswer (length (now (bytes .entry))) bills ⌝ }
+    ensures answer { λ r. ⌜ r ≡ sizeAnswer (length (now (bytes .entry))) bills ⌝ }
     ensures bytes { λ r. ⌜ now (bytes .exit) ≡ cond (isOk r) (freshBytes bills) (now (bytes .entry)) ⌝ }
     ensures fresh { λ r. ⌜ Cases r (λ _. HoldsFresh (now (bytes .exit)) bills) (λ _. now (bytes .exit) ≡ now (bytes .entry)) ⌝ }
 {
-    if bills == 0 || bills > MOST_PLACES {
-        return Err(DrawerFault::BadCount(Number));
-    }
+    check_size(bytes.len(), bills)?;
     let bills = bills as usize;
-    if bytes.len() != 98 * (bills + 1) {
-        return Err(DrawerFault::BadLength(Number));
-    }
     for head in 0..HEADS {
         put_section(bytes, (bills + 1) * head, bills);
     }

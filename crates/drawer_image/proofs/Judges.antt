@@ -19,7 +19,7 @@ use Rattle.drawer_image.specs.declared.section.Section.{Section}
 use Rattle.drawer_image.specs.declared.fault.DrawerFault.the-variants.{BadCount, BadLength, BadField}
 use Rattle.drawer_image.specs.Fields.{amountAt, isPromise, isSettled, isFree}
 use Rattle.drawer_image.specs.Sections.{promiseOf, freeIn, badIn, allowed, unless, covered, sectionOf}
-use Rattle.drawer_image.specs.Checks.{countFits, longEnough, earliest, badOf, uncoveredOf, refusedAt, checked}
+use Rattle.drawer_image.specs.Checks.{countFits, earliest, badOf, uncoveredOf, refusedAt, checked}
 use Rattle.drawer_image.specs.Judged.{Allowed, AllAllowed, Uncovered, EarliestBad, EarliestUncovered, Counted, Long, Passing, Judged}
 use Rattle.drawer_image.proofs.Earliest.{earliest-each, First, earliest-first}
 
@@ -167,12 +167,12 @@ fits-count k e = let p = and-parts (ltb 0 k) (leb k mostPlaces) e in (ltb-true 0
 
 -- the whole of it
 pub judged : (bs : List ℕ) (k : ℕ) → Judged bs k (checked bs k)
-judged bs k = go (countFits k) refl (longEnough bs k) refl (earliest (badOf bs k) heads) refl (earliest (uncoveredOf bs k) heads) refl
+judged bs k = go (countFits k) refl (eqb (length bs) (98 * (k + 1))) refl (earliest (badOf bs k) heads) refl (earliest (uncoveredOf bs k) heads) refl
   where
-    go : (x : Bool) → countFits k ≡ x → (y : Bool) → longEnough bs k ≡ y → (o : Option ℕ) → earliest (badOf bs k) heads ≡ o → (q : Option ℕ) → earliest (uncoveredOf bs k) heads ≡ q
+    go : (x : Bool) → countFits k ≡ x → (y : Bool) → eqb (length bs) (98 * (k + 1)) ≡ y → (o : Option ℕ) → earliest (badOf bs k) heads ≡ o → (q : Option ℕ) → earliest (uncoveredOf bs k) heads ≡ q
         → Judged bs k (cond x (cond y (refusedAt (orOther o q)) (Err (BadLength itsNumber))) (Err (BadCount itsNumber)))
     go false ex y ey o eo q eq = λ c. both-ways (countFits k) ex (count-fits k c)
-    go true ex false ey o eo q eq = (fits-count k ex, λ (l : Long bs k). both-ways (longEnough bs k) ey (eq-eqb (length bs) (98 * (k + 1)) l))
+    go true ex false ey o eo q eq = (fits-count k ex, λ (l : Long bs k). both-ways (eqb (length bs) (98 * (k + 1))) ey (eq-eqb (length bs) (98 * (k + 1)) l))
     go true ex true ey (Some place) eo q eq = (fits-count k ex, eqb-true (length bs) (98 * (k + 1)) ey, inl (earliest-bad bs k place eo))
     go true ex true ey None eo (Some place) eq = (fits-count k ex, eqb-true (length bs) (98 * (k + 1)) ey, inr (all-allowed bs k eo, earliest-uncovered bs k place eq))
     go true ex true ey None eo None eq =

@@ -7,15 +7,19 @@ use Prim.Native.Nat.{ℕ, zero, suc, _+_, _-_, _*_, _<_, _≤_}
 use native.Mathlib.Omega.{arith}
 use lib.Dec.{eqb, leb, ltb}
 use lib.ListN.{length}
-use Rattle.std.proofs.shelf.Tests.{cond-both, cond-true, cond-false, and-parts, and-from, and-left, and-right, le-leb, le-ltb, lt-ltb, eq-eqb, leb-true, ltb-true, eqb-true, both-ways, cases-bool}
+use Rattle.std.proofs.shelf.Tests.{cond-both, cond-true, cond-false, and-parts, and-from, and-left, and-right, le-leb, le-ltb, lt-ltb, eq-eqb, leb-true, ltb-true, eqb-true, both-ways, not-true, not-false, cases-bool}
 use Rattle.std.specs.Options.{isSome}
 use Rattle.std.specs.declared.option.Option.{Option}
 use Rattle.std.specs.declared.option.Option.the-variants.{Some, None}
+use Rattle.std.specs.Results.{isErr}
+use Rattle.std.specs.declared.result.Result.the-variants.{Ok, Err}
 use Rattle.ledger.specs.Held.{heads, mostPlaces}
+use Rattle.ledger.specs.Answers.{itsNumber}
+use Rattle.drawer_image.specs.declared.fault.DrawerFault.the-variants.{BadCount, BadLength}
 use Rattle.drawer_image.specs.declared.section.Section.{Section}
 use Rattle.drawer_image.specs.Fields.{amountAt}
 use Rattle.drawer_image.specs.Sections.{promiseOf, freeIn, badIn, covered, sectionOf}
-use Rattle.drawer_image.specs.Checks.{countFits, sized, sound, sectionAt, emptySection}
+use Rattle.drawer_image.specs.Checks.{countFits, Answer, sized, sizeAnswer, sound, sectionAt, emptySection}
 
 pub record Sized (bs : List ℕ) (k : ℕ) : Type 0 where
   pub some : 0 < k
@@ -34,6 +38,24 @@ is-sized bs k e =
 
 pub sized-by : (bs : List ℕ) (k : ℕ) → Sized bs k → sized bs k ≡ true
 sized-by bs k s = and-from (countFits k) (eqb (length bs) (98 * (k + 1))) (and-from (ltb 0 k) (leb k mostPlaces) (lt-ltb 0 k (s .some)) (le-leb k mostPlaces (s .few))) (eq-eqb _ _ (s .long))
+
+-- what the check of the size tells
+size-tells : (bs : List ℕ) (k : ℕ) → isErr (sizeAnswer (length bs) k) ≡ not (sized bs k)
+size-tells bs k = go (countFits k) (eqb (length bs) (98 * (k + 1)))
+  where
+    size : Bool → Bool → Answer
+    size x y = cond x (cond y (Ok tt) (Err (BadLength itsNumber))) (Err (BadCount itsNumber))
+
+    go : (x y : Bool) → isErr (size x y) ≡ not (x && y)
+    go true true = refl
+    go true false = refl
+    go false y = refl
+
+pub size-refused : (bs : List ℕ) (k : ℕ) (r : Answer) → r ≡ sizeAnswer (length bs) k → true ≡ isErr r → sized bs k ≡ false
+size-refused bs k r e x = not-true (sized bs k) (sym (x ∙ ap (λ (a : Answer). isErr a) e ∙ size-tells bs k))
+
+pub size-accepted : (bs : List ℕ) (k : ℕ) (r : Answer) → r ≡ sizeAnswer (length bs) k → false ≡ isErr r → Sized bs k
+size-accepted bs k r e x = is-sized bs k (not-false (sized bs k) (sym (x ∙ ap (λ (a : Answer). isErr a) e ∙ size-tells bs k)))
 
 none-bad : (o : Option ℕ) → not (isSome o) ≡ true → o ≡ None
 none-bad None e = refl

@@ -1,7 +1,8 @@
 -- The check of a drawer's bytes, and what each section of any bytes holds.
 --
 --   countFits k            k is 1 to 4,000
---   longEnough bs k        the bytes are 98 × (k + 1)
+--   countAnswer k          26 if k is not
+--   sizeAnswer n k         the answer to a length of n bytes: 26, 27 if it is not 98 × (k + 1)
 --   wrongField bs k        the place of the earliest bad field, else of the earliest promise that has no free field
 --   checked bs k           the check's answer
 --   Passes bs k            the bytes pass the check
@@ -30,11 +31,18 @@ use Rattle.drawer_image.specs.Sections.{promiseOf, badIn, unless, covered, sec
 abbrev pub countFits : ℕ → Bool
 countFits k = ltb 0 k && leb k mostPlaces
 
-abbrev pub longEnough : List ℕ → ℕ → Bool
-longEnough bs k = eqb (length bs) (98 * (k + 1))
+abbrev pub Answer : Type 0
+Answer = Result (Unit {0}) DrawerFault
 
+abbrev pub countAnswer : ℕ → Answer
+countAnswer k = cond (countFits k) (Ok tt) (Err (BadCount itsNumber))
+
+abbrev pub sizeAnswer : ℕ → ℕ → Answer
+sizeAnswer n k = cond (countFits k) (cond (eqb n (98 * (k + 1))) (Ok tt) (Err (BadLength itsNumber))) (Err (BadCount itsNumber))
+
+-- k and the length of the bytes are accepted
 abbrev pub sized : List ℕ → ℕ → Bool
-sized bs k = countFits k && longEnough bs k
+sized bs k = countFits k && eqb (length bs) (98 * (k + 1))
 
 -- the first that f tells below n
 unfoldable pub earliest : (ℕ → Option ℕ) → ℕ → Option ℕ
@@ -50,16 +58,13 @@ uncoveredOf bs k h = unless (covered (sectionOf bs (promiseOf k h) k)) (promiseO
 abbrev pub wrongField : List ℕ → ℕ → Option ℕ
 wrongField bs k = orOther (earliest (badOf bs k) heads) (earliest (uncoveredOf bs k) heads)
 
-abbrev pub Answer : Type 0
-Answer = Result (Unit {0}) DrawerFault
-
 abbrev pub refusedAt : Option ℕ → Answer
 refusedAt None = Ok tt
 refusedAt (Some place) = Err (BadField itsNumber place)
 
 abbrev pub checked : List ℕ → ℕ → Answer
 checked bs k =
-    cond (countFits k) (cond (longEnough bs k) (refusedAt (wrongField bs k)) (Err (BadLength itsNumber))) (Err (BadCount itsNumber))
+    cond (countFits k) (cond (eqb (length bs) (98 * (k + 1))) (refusedAt (wrongField bs k)) (Err (BadLength itsNumber))) (Err (BadCount itsNumber))
 
 abbrev pub Passes : List ℕ → ℕ → Type 0
 Passes bs k = checked bs k ≡ Ok tt

@@ -6,8 +6,8 @@ ghost use Rattle.drawer_image.specs.Checks.{wrongField, checked};
 ghost use Rattle.drawer_image.specs.Judged.{Judged};
 use crate::fault::DrawerFault;
 use crate::section::read_section;
+use crate::size::check_size;
 use ledger::HEADS;
-use ledger::MOST_PLACES;
 use number::Number;
 
 // The place of the earliest bad field, else of the earliest promise that has no free field.
@@ -35,14 +35,8 @@ pub fn check(bytes: &[u8], bills: u16) -> Result<(), DrawerFault>
     ensures answer { λ r. ⌜ r ≡ checked (now (bytes .entry)) bills ⌝ }
     ensures judged { λ r. ⌜ Judged (now (bytes .entry)) bills r ⌝ }
 {
-    if bills == 0 || bills > MOST_PLACES {
-        return Err(DrawerFault::BadCount(Number));
-    }
-    let bills = bills as usize;
-    if bytes.len() != 98 * (bills + 1) {
-        return Err(DrawerFault::BadLength(Number));
-    }
-    match wrong_field(bytes, bills) {
+    check_size(bytes.len(), bills)?;
+    match wrong_field(bytes, bills as usize) {
         None => Ok(()),
         Some(place) => Err(DrawerFault::BadField(Number, place)),
     }

@@ -8,3 +8,4 @@ pub mod check;
 pub mod fault;
 mod field;
 pub mod section;
+pub mod size;

@@ -3,13 +3,13 @@ ghost use Prim.Native.Nat.{ℕ, _+_, _-_, _*_, _<_, _≤_};
 ghost use lib.ListN.{length};
 ghost use Rattle.ledger.specs.Held.{mostPlaces};
 ghost use Rattle.drawer_image.specs.Sections.{badIn, sectionOf, readOf, covered, promisedIn, placesIn};
-ghost use Rattle.drawer_image.specs.Checks.{sized, sectionAt};
+ghost use Rattle.drawer_image.specs.Checks.{sectionAt};
 use crate::field::amount;
 use crate::field::is_free;
 use crate::field::is_promise;
 use crate::field::is_settled;
+use crate::size::check_size;
 use ledger::HEADS;
-use ledger::MOST_PLACES;
 
 // What a section says: the promised amount, 0 for none, the sum of its settled bills, and how many of its
 // fields are free.
@@ -79,12 +79,6 @@ pub(crate) fn read_section(bytes: &[u8], first: usize, bills: usize) -> Result<S
     })
 }
 
-fn is_sized(bytes: &[u8], bills: u16) -> bool
-    ensures { λ r. ⌜ r ≡ sized (now (bytes .entry)) bills ⌝ }
-{
-    0 < bills && bills <= MOST_PLACES && bytes.len() == 98 * (bills as usize + 1)
-}
-
 // What the section of a head holds: nothing where the section would not pass the check, or there is no such head.
 pub fn section_of(bytes: &[u8], bills: u16, head: u8) -> Section
     ensures { λ r. ⌜ r ≡ sectionAt (now (bytes .entry)) bills head ⌝ }
@@ -97,7 +91,7 @@ pub fn section_of(bytes: &[u8], bills: u16, head: u8) -> Section
     if head as usize >= HEADS {
         return nothing;
     }
-    if !is_sized(bytes, bills) {
+    if check_size(bytes.len(), bills).is_err() {
         return nothing;
     }
     let bills = bills as usize;

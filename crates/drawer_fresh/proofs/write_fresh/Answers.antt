@@ -1,5 +1,5 @@
 use borrow.Author.Needs.{needs}
-use mathlib.Core.Path.{_≡_, sym, ap, subst, _∙_}
+use mathlib.Core.Path.{_≡_, refl, sym, ap, subst, _∙_}
 use mathlib.Core.List.{List, _++_}
 use Prim.Native.Nat.{ℕ, _+_, _*_, _≤_}
 use native.Mathlib.Nat.{mul-add, mul-assoc}
@@ -7,9 +7,9 @@ use native.Mathlib.Omega.{arith}
 use lib.ListN.{length, take}
 use Rattle.std.proofs.shelf.Lists.{take-all}
 use Rattle.std.specs.declared.result.Result.the-variants.{Ok}
-use Rattle.drawer_image.specs.Checks.{Answer}
 use Rattle.drawer_image.proofs.Earliest.{room}
-use Rattle.drawer_fresh.specs.Fresh.{repeated, freshSection, freshBytes, freshAnswer, HoldsFresh}
+use Rattle.drawer_image.proofs.Sounds.{size-accepted}
+use Rattle.drawer_fresh.specs.Fresh.{repeated, freshSection, freshBytes, HoldsFresh}
 use Rattle.drawer_fresh.proofs.Lists.{repeated-none, repeated-more}
 use Rattle.drawer_fresh.proofs.Fresh.{holds-fresh}
 use Rattle.drawer_fresh.proofs.write_fresh.Needs as need
@@ -21,7 +21,8 @@ loop-head-holds c =
 
 pub put-section-requires : need.put-section-requires
 put-section-requires c κs =
-    record { few = omega arith; room = room (c .args .bills) (c .loop-head .head) _ (omega arith) (omega arith) }
+    let z = size-accepted (c .args .bytes .now) (c .args .bills) (Ok tt) (c .in-Continue-check-size .ensures tt) refl in
+    record { few = z .few; room = room (c .args .bills) (c .loop-head .head) _ (omega arith) (omega (arith, z .long)) }
 
 pub loop-head-again : need.loop-head-again
 loop-head-again c =
@@ -37,11 +38,11 @@ loop-head-again c =
 pub returns : need.returns
 returns c =
     let k = c .args .bills in
+    let z = size-accepted (c .args .bytes .now) k (Ok tt) (c .in-Continue-check-size .ensures tt) refl in
     let all : c .loop-head .head ≡ 14 = omega arith in
     let n = ap (λ h. (k + 1) * h) all in
     let bytes : c .loop-head .bytes ≡ freshBytes k =
     sym (take-all (7 * ((k + 1) * c .loop-head .head)) (c .loop-head .bytes) (omega arith))
     ∙ c .loop-head .inv
     ∙ ap (λ h. repeated h (freshSection k)) all in
-    let answer : _≡_ {A = Answer} (Ok tt) (freshAnswer (length (c .args .bytes .now)) k) = search needs in
-    record { answer = answer; bytes = bytes; fresh = subst (λ xs. HoldsFresh xs k) (sym bytes) (holds-fresh k (omega arith) (omega arith)) }
+    record { answer = c .in-Continue-check-size .ensures tt; bytes = bytes; fresh = subst (λ xs. HoldsFresh xs k) (sym bytes) (holds-fresh k (z .some) (z .few)) }

@@ -1,21 +1,23 @@
-use borrow.Author.Needs.{needs}
 use mathlib.Core.Path.{_≡_, sym, ap, _∙_}
 use Prim.Native.Nat.{ℕ, _+_, _*_}
 use Rattle.drawer_image.specs.Sections.{promiseOf, badIn, covered, sectionOf}
 use Rattle.drawer_image.proofs.Walks.{read-ok, read-err}
 use Rattle.drawer_image.proofs.Earliest.{room}
-use Rattle.drawer_image.proofs.Sounds.{is-sized, section-sound, unsized-none, headless-none, bad-none, bare-none}
+use Rattle.drawer_image.proofs.Sounds.{size-refused, size-accepted, section-sound, unsized-none, headless-none, bad-none, bare-none}
 use Rattle.drawer_image.proofs.section.section_of.Needs as need
 
 pub returns-then-head-ge-HEADS : need.returns-then-head-ge-HEADS
 returns-then-head-ge-HEADS c = sym (headless-none (c .args .bytes .now) (c .args .bills) (c .args .head) (c .if-head-ge-HEADS .taken))
 
-pub returns-then-not-is-sized : need.returns-then-not-is-sized
-returns-then-not-is-sized c = sym (unsized-none (c .args .bytes .now) (c .args .bills) (c .args .head) (sym (c .if-not-is-sized .ensures tt)))
+pub returns-then-is-err : need.returns-then-is-err
+returns-then-is-err c =
+    let bs = c .args .bytes .now in
+    let k = c .args .bills in
+    sym (unsized-none bs k (c .args .head) (size-refused bs k (c .check-size .result) (c .check-size .ensures) (c .if-is-err .ensures tt .value)))
 
 pub read-section-requires : need.read-section-requires
 read-section-requires c κs =
-    let z = is-sized (c .args .bytes .now) (c .args .bills) (sym (c .if-not-is-sized .ensures tt)) in
+    let z = size-accepted (c .args .bytes .now) (c .args .bills) (c .check-size .result) (c .check-size .ensures) (c .if-is-err .ensures tt .value) in
     record { few = z .few; room = room (c .args .bills) (c .args .head) _ (c .if-head-ge-HEADS .left) (z .long) }
 
 pub returns-then-is-covered : need.returns-then-is-covered
@@ -23,7 +25,7 @@ returns-then-is-covered c =
     let bs = c .args .bytes .now in
     let k = c .args .bills in
     let h = c .args .head in
-    let z = is-sized bs k (sym (c .if-not-is-sized .ensures tt)) in
+    let z = size-accepted bs k (c .check-size .result) (c .check-size .ensures) (c .if-is-err .ensures tt .value) in
     let got = read-ok (badIn bs (promiseOf k h) k) (sectionOf bs (promiseOf k h) k) (c .in-Ok .section) (c .in-Ok .ensures tt) in
     got .1 ∙ sym (section-sound bs k h (c .if-head-ge-HEADS .left) z (record { good = got .0; backs = sym (ap covered (got .1)) ∙ sym (c .if-is-covered .ensures tt) }))
 
