@@ -1,1 +1,3 @@
 mod Fits
+pub mod CallLaws
+mod Balances

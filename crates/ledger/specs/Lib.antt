@@ -1,4 +1,7 @@
 pub mod Held
 pub mod Answers
+pub mod Laws
 pub mod Starts
 pub mod Tables
+pub mod Calls
+pub mod Books

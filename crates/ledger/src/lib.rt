@@ -11,7 +11,9 @@ use number::NumberDebug;
 use number::NumberPartialEq;
 use std::fmt;
 
+pub mod calls;
 mod head_record;
+pub mod laws;
 pub mod starts;
 pub mod table;
 
