@@ -110,6 +110,7 @@ settle-call bs k h le held =
 
 -- the places of a section that holds something
 pub record Places (bs : List ℕ) (k h : ℕ) : Type 0 where
+  pub some : 0 < k
   pub few : k ≤ 4000
   pub first : (k + 1) * h ≤ 56000
   pub room : 7 * ((k + 1) * h + k) + 7 ≤ length bs
@@ -122,7 +123,7 @@ places-of bs k h some =
     let r = room k h (length bs) (u .head) (u .size .long) in
     let few = u .size .few in
     let free : sectionAt bs k h .free ≡ freeIn bs (promiseOf k h) k = ap (λ (x : Section). x .free) (u .says) in
-    record { few = few; first = omega (arith, u .size .long); room = r; says = u .says; within = omega (arith, each bs (promiseOf k h) k) }
+    record { some = u .size .some; few = few; first = omega (arith, u .size .long); room = r; says = u .says; within = omega (arith, each bs (promiseOf k h) k) }
 
 -- from what was read
 module _ (bs : List ℕ) (k h : ℕ) (s : Section) (read : s ≡ sectionAt bs k h) where

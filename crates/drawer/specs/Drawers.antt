@@ -1,7 +1,8 @@
 -- What a drawer holds, and what no call on it changes.
 --
 --   drawerHeld d         what is held for each head
---   drawerKeeps d e      a call that makes e of d leaves the buffer, the number of fields for bills, and that the bytes pass the check
+--   drawerKeeps d e      what every call that makes e of d leaves: the buffer, the number of fields for bills, that the
+--                        bytes pass the check, and all of the bytes where the number is 0, so that the check refused them
 --   drawerBeyond, drawerWithin, drawerAmounts, drawerStays, drawerJoins
 --                        the facts that every ledger shows: nothing beyond the heads, the bound, the amounts, and the laws of keeping
 --
@@ -27,13 +28,16 @@ drawerHeld d = bytesHeld (now (d .bytes)) (d .bills)
 
 abbrev pub drawerKeeps : Drawer → Drawer → Type 0
 drawerKeeps d e =
-    (name (e .bytes) ≡ name (d .bytes)) × (e .bills ≡ d .bills) × (Passes (now (d .bytes)) (d .bills) → Passes (now (e .bytes)) (e .bills))
+    (name (e .bytes) ≡ name (d .bytes))
+    × (e .bills ≡ d .bills)
+    × (Passes (now (d .bytes)) (d .bills) → Passes (now (e .bytes)) (e .bills))
+    × (d .bills ≡ 0 → now (e .bytes) ≡ now (d .bytes))
 
 pub drawerStays : (d : Drawer) → drawerKeeps d d
-drawerStays d = (refl, refl, λ p. p)
+drawerStays d = (refl, refl, λ p. p, λ z. refl)
 
 pub drawerJoins : (d e f : Drawer) → drawerKeeps d e → drawerKeeps e f → drawerKeeps d f
-drawerJoins d e f p q = (q .0 ∙ p .0, q .1 ∙ p .1, λ x. q .2 (p .2 x))
+drawerJoins d e f p q = (q .0 ∙ p .0, q .1 ∙ p .1, λ x. q .2 (p .2 x), λ z. q .3 (p .1 ∙ z) ∙ p .3 z)
 
 pub drawerBeyond : (d : Drawer) (h : ℕ) → heads ≤ h → drawerHeld d h ≡ nothing
 drawerBeyond d h le = ap heldIn (headless-none (now (d .bytes)) (d .bills) h le)

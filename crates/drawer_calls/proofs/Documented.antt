@@ -7,20 +7,20 @@ use Rattle.std.proofs.shelf.Tests.{cond-true}
 use Rattle.std.specs.Results.{isOk}
 use Rattle.std.specs.declared.result.Result.the-variants.{Ok}
 use Rattle.ledger.specs.Held.{Heads, nothing}
+use Rattle.ledger.specs.Calls.{afterAll}
+use Rattle.ledger.specs.declared.calls.HeadCall.{HeadCall}
 use Rattle.drawer_image.specs.Checks.{Answer, checked, Passes}
 use Rattle.drawer.specs.Meaning.{documented, bytesHeld, made}
 use Rattle.drawer.proofs.Checks.{holds-documented}
-use Rattle.drawer_calls.specs.declared.calls.Call.{Call}
-use Rattle.drawer_calls.specs.Played.{playedAfter}
 
 -- the drawer made of bs, with i fields for bills, held t; after the calls it is in ds, with j of them
-pub played-documented : (bs cs ds : List ℕ) (k i j : ℕ) (t : Heads) (calls : List Call)
-    → i ≡ cond (isOk (checked bs k)) k 0 → t ≡ made bs k → j ≡ i → bytesHeld ds j ≡ playedAfter t calls
-    → cs ≡ ds → (Passes bs k → Passes cs k) → Passes bs k → documented cs k ≡ playedAfter (documented bs k) calls
-played-documented bs cs ds k i j t calls bills held same after back passes e =
+pub calls-documented : (bs cs ds : List ℕ) (k i j : ℕ) (t : Heads) (calls : List HeadCall)
+    → i ≡ cond (isOk (checked bs k)) k 0 → t ≡ made bs k → j ≡ i → bytesHeld ds j ≡ afterAll t calls
+    → cs ≡ ds → (Passes bs k → Passes cs k) → Passes bs k → documented cs k ≡ afterAll (documented bs k) calls
+calls-documented bs cs ds k i j t calls bills held same after back passes e =
     let ok = ap (λ (r : Answer). isOk r) e in
     sym (holds-documented cs k (passes e))
     ∙ ap (λ x. bytesHeld x k) back
     ∙ ap (bytesHeld ds) (sym (same ∙ bills ∙ cond-true (isOk (checked bs k)) k 0 ok))
     ∙ after
-    ∙ ap (λ x. playedAfter x calls) (held ∙ cond-true (isOk (checked bs k)) (documented bs k) (λ h. nothing) ok)
+    ∙ ap (λ x. afterAll x calls) (held ∙ cond-true (isOk (checked bs k)) (documented bs k) (λ h. nothing) ok)

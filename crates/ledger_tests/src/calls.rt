@@ -14,14 +14,38 @@ use ledger::table::TableLedger;
 use std::test::*;
 
 const CALLS: [HeadCall; 8] = [
-    HeadCall { head: 3, call: Call::Promise(500) },
-    HeadCall { head: 3, call: Call::Settle },
-    HeadCall { head: 3, call: Call::Settle },
-    HeadCall { head: 14, call: Call::Promise(1) },
-    HeadCall { head: 3, call: Call::Promise(20) },
-    HeadCall { head: 4, call: Call::Promise(7) },
-    HeadCall { head: 3, call: Call::GiveBack },
-    HeadCall { head: 3, call: Call::Promise(0) },
+    HeadCall {
+        head: 3,
+        call: Call::Promise(500),
+    },
+    HeadCall {
+        head: 3,
+        call: Call::Settle,
+    },
+    HeadCall {
+        head: 3,
+        call: Call::Settle,
+    },
+    HeadCall {
+        head: 14,
+        call: Call::Promise(1),
+    },
+    HeadCall {
+        head: 3,
+        call: Call::Promise(20),
+    },
+    HeadCall {
+        head: 4,
+        call: Call::Promise(7),
+    },
+    HeadCall {
+        head: 3,
+        call: Call::GiveBack,
+    },
+    HeadCall {
+        head: 3,
+        call: Call::Promise(0),
+    },
 ];
 
 #[test]

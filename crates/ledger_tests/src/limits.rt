@@ -12,7 +12,10 @@ use std::test::*;
 
 #[test]
 fn a_limit_has_the_lesser_places() -> Result<(), Fail> {
-    let limit = Limit::new([2, 9, 0, 4_000, 5, 5, 5, 5, 5, 5, 5, 5, 5, 5], Table::new([5; 14]));
+    let limit = Limit::new(
+        [2, 9, 0, 4_000, 5, 5, 5, 5, 5, 5, 5, 5, 5, 5],
+        Table::new([5; 14]),
+    );
     check_eq(limit.places(0), Ok(2))?;
     check_eq(limit.places(1), Ok(5))?;
     check_eq(limit.places(2), Ok(0))?;
@@ -24,7 +27,10 @@ fn a_limit_has_the_lesser_places() -> Result<(), Fail> {
 
 #[test]
 fn a_limit_of_refused_starts_has_nothing_left() -> Result<(), Fail> {
-    let mut limit = Limit::new([5, 5, 5, 5, 5, 5, 5, 5, 5, 5, 5, 5, 5, 4_001], Table::new([5; 14]));
+    let mut limit = Limit::new(
+        [5, 5, 5, 5, 5, 5, 5, 5, 5, 5, 5, 5, 5, 4_001],
+        Table::new([5; 14]),
+    );
     check_eq(limit.left(0), Ok(0))?;
     check_eq(limit.left(13), Ok(0))?;
     check_eq(limit.places(0), Ok(0))?;
@@ -57,8 +63,14 @@ fn earlier_refusals_come_before_the_own_count() -> Result<(), Fail> {
     let mut limit = Limit::new([0; 14], table);
     check_eq(limit.promise(14, 0), Err(LedgerFault::NoSuchHead(Number)))?;
     check_eq(limit.promise(4, 0), Err(LedgerFault::BadAmount(Number)))?;
-    check_eq(limit.promise(4, 255_000_001), Err(LedgerFault::BadAmount(Number)))?;
-    check_eq(limit.promise(4, 8), Err(LedgerFault::AlreadyPromised(Number)))?;
+    check_eq(
+        limit.promise(4, 255_000_001),
+        Err(LedgerFault::BadAmount(Number)),
+    )?;
+    check_eq(
+        limit.promise(4, 8),
+        Err(LedgerFault::AlreadyPromised(Number)),
+    )?;
     check_eq(limit.promise(5, 8), Err(LedgerFault::NoPlace(Number, 0)))?;
     check_eq(limit.settle(5), Err(LedgerFault::NonePromised(Number)))
 }

@@ -15,8 +15,14 @@ use std::test::*;
 #[test]
 fn starts_stop_at_4000() -> Result<(), Fail> {
     check_eq(check_starts(&[4_000; 14]), Ok(()))?;
-    check_eq(check_starts(&[0, 0, 0, 0, 0, 0, 0, 0, 0, 0, 0, 0, 0, 4_001]), Err(StartFault::AboveMost))?;
-    check_eq(check_starts(&[4_001, 0, 0, 0, 0, 0, 0, 0, 0, 0, 0, 0, 0, 0]), Err(StartFault::AboveMost))
+    check_eq(
+        check_starts(&[0, 0, 0, 0, 0, 0, 0, 0, 0, 0, 0, 0, 0, 4_001]),
+        Err(StartFault::AboveMost),
+    )?;
+    check_eq(
+        check_starts(&[4_001, 0, 0, 0, 0, 0, 0, 0, 0, 0, 0, 0, 0, 0]),
+        Err(StartFault::AboveMost),
+    )
 }
 
 #[test]
@@ -55,7 +61,10 @@ fn heads_end_at_13() -> Result<(), Fail> {
 fn amounts_are_1_to_255_million() -> Result<(), Fail> {
     let mut table = Table::new([2; 14]);
     check_eq(table.promise(0, 0), Err(LedgerFault::BadAmount(Number)))?;
-    check_eq(table.promise(0, 255_000_001), Err(LedgerFault::BadAmount(Number)))?;
+    check_eq(
+        table.promise(0, 255_000_001),
+        Err(LedgerFault::BadAmount(Number)),
+    )?;
     check_eq(table.promise(0, 1), Ok(()))?;
     check_eq(table.promise(1, 255_000_000), Ok(()))?;
     check_eq(table.promised(0), Ok(Some(1)))?;
@@ -69,7 +78,10 @@ fn refusals_come_in_order() -> Result<(), Fail> {
     check_eq(table.promise(2, 5), Ok(()))?;
     check_eq(table.promise(14, 0), Err(LedgerFault::NoSuchHead(Number)))?;
     check_eq(table.promise(2, 0), Err(LedgerFault::BadAmount(Number)))?;
-    check_eq(table.promise(2, 6), Err(LedgerFault::AlreadyPromised(Number)))?;
+    check_eq(
+        table.promise(2, 6),
+        Err(LedgerFault::AlreadyPromised(Number)),
+    )?;
     check_eq(table.settle(2), Ok(()))?;
     check_eq(table.promise(2, 0), Err(LedgerFault::BadAmount(Number)))?;
     check_eq(table.promise(2, 6), Err(LedgerFault::NoPlace(Number, 0)))

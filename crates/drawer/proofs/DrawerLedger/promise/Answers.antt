@@ -23,6 +23,7 @@ returns c =
     let bs = c .args .self .now .bytes .now in
     let k = c .args .self .now .bills in
     let h = c .args .head in
+    let p = places-of bs k h (read-free bs k h (c .section-held .result) (c .section-held .ensures) (c .if-held-eq0 .left)) in
     let i = indexed h (c .in-Continue-index .index) (c .in-Continue-index .ensures tt) in
     let call = promise-call bs k h (c .args .amount) (i .0) (omega arith) (omega arith)
     (read-none bs k h (c .section-held .result) (c .section-held .ensures) (c .if-held-ne0 .left))
@@ -31,7 +32,7 @@ returns c =
     record {
       answer = sym (call .0);
       after = ap (λ x. bytesHeld x k) bytes ∙ call .1;
-      kept = (refl, refl, λ e. subst (λ x. Passes x k) (sym bytes) (call .2 e));
+      kept = (refl, refl, λ e. subst (λ x. Passes x k) (sym bytes) (call .2 e), λ z. absurd (omega (arith, p .some)));
       bytes = bytes;
       same = refl;
     }

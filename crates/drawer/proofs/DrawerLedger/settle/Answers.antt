@@ -36,6 +36,7 @@ returns c =
     let h = c .args .head in
     let s = c .section-held .result in
     let ne = c .if-held-eq0 .left in
+    let p = read-places bs k h s (c .section-held .ensures) ne in
     let i = indexed h (c .in-Continue-index .index) (c .in-Continue-index .ensures tt) in
     let call = settle-call bs k h (i .0) (read-some bs k h s (c .section-held .ensures) ne) in
     let bytes =
@@ -46,7 +47,7 @@ returns c =
     record {
       answer = sym (call .0);
       after = ap (λ x. bytesHeld x k) bytes ∙ call .1;
-      kept = (refl, refl, λ e. subst (λ x. Passes x k) (sym bytes) (call .2 e));
+      kept = (refl, refl, λ e. subst (λ x. Passes x k) (sym bytes) (call .2 e), λ z. absurd (omega (arith, p .some)));
       bytes = bytes;
       same = refl;
     }
