@@ -35,7 +35,7 @@ pub impl fmt::Display for DrawerFault as DrawerFaultDisplay {
         match self {
             DrawerFault::BadCount(_) => write!(
                 f,
-                "{number}: a section has 1 to 4000 fields for bills"
+                "{number}: a section has 1 to 4,000 fields for bills"
             ),
             DrawerFault::BadLength(_) => write!(
                 f,
