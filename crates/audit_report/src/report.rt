@@ -4,6 +4,7 @@ ghost use Prim.Native.Nat.{ℕ, _+_, _<_, _≤_};
 ghost use Rattle.std.specs.Of.String.{string-bytes};
 ghost use Rattle.std.specs.Options.{valueOr};
 ghost use Rattle.std.specs.Vec.{made};
+ghost use Rattle.ledger.specs.Held.{heads};
 ghost use Rattle.drawer.specs.Meaning.{bytesHeld};
 ghost use Rattle.audit_report.specs.Reports.{linesOf, reportOf};
 use crate::line::HeadLine;
@@ -30,10 +31,10 @@ pub fn head_line(image: &[u8], bills: u16, head: u8) -> HeadLine
 }
 
 fn report_heads(heap: Global, image: &[u8], bills: u16) -> Result<String, AllocError>
-    ensures { λ r. ⌜ made r (λ text. string-bytes text ≡ linesOf (bytesHeld (now (image .entry)) bills) 14) ⌝ }
+    ensures { λ r. ⌜ made r (λ text. string-bytes text ≡ linesOf (bytesHeld (now (image .entry)) bills) heads) ⌝ }
 {
     let mut text = String::new(heap);
-    for head in 0..14u8 {
+    for head in 0..HEADS as u8 {
         let line = head_line(image, bills, head);
         let line = format!(heap, "{line}\n")?;
         text.push_str(line.as_str())?;

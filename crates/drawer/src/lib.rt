@@ -147,10 +147,10 @@ pub impl<'a> Ledger for Drawer<'a> as DrawerLedger {
             return Err(LedgerFault::NonePromised(Number));
         }
         let bills = self.bills as usize;
-        let first = (bills + 1) * index;
-        let next = first + (bills - held.free as usize) + 1;
+        let promise = (bills + 1) * index;
+        let next = promise + (bills - held.free as usize) + 1;
         put_settled(self.bytes, next, held.promised);
-        put_amount(self.bytes, first, 0);
+        put_amount(self.bytes, promise, 0);
         Ok(())
     }
 
