@@ -6,21 +6,26 @@ use std::test::*;
 
 #[test]
 fn a_count_is_decimal_digits_without_leading_zeros() -> Result<(), Fail> {
-    check_eq(read_count(b""), None)?;
-    check_eq(read_count(b"0"), Some(0))?;
-    check_eq(read_count(b"00"), None)?;
-    check_eq(read_count(b"01"), None)?;
-    check_eq(read_count(b"1"), Some(1))?;
-    check_eq(read_count(b"10"), Some(10))?;
-    check_eq(read_count(b"4000"), Some(4000))?;
-    check_eq(read_count(b"4001"), Some(4001))?;
-    check_eq(read_count(b"40010"), Some(4001))?;
-    check_eq(read_count(b"99999999999999999999999"), Some(4001))?;
-    check_eq(read_count(b"9999999999999999999999x"), None)?;
-    check_eq(read_count(b"+1"), None)?;
-    check_eq(read_count(b"1 "), None)?;
-    check_eq(read_count(b":"), None)?;
-    check_eq(read_count(b"/"), None)
+    let counts: [(&str, Option<u16>); 14] = [
+        ("", None),
+        ("0", Some(0)),
+        ("00", None),
+        ("01", None),
+        ("1", Some(1)),
+        ("10", Some(10)),
+        ("4000", Some(4000)),
+        ("4001", Some(4001)),
+        ("99999999999999999999999", Some(4001)),
+        ("9999999999999999999999x", None),
+        ("+1", None),
+        ("1 ", None),
+        (":", None),
+        ("/", None),
+    ];
+    for (text, count) in counts {
+        check_eq(read_count(text.as_bytes()), count)?;
+    }
+    Ok(())
 }
 
 #[test]

@@ -70,16 +70,23 @@ fn the_earliest_wrong_field_is_told() -> Result<(), Fail> {
 // A count outside 1 to 4,000 comes before the length, and the length before the fields.
 #[test]
 fn count_and_length_come_first(rt: LibcRuntime) -> Result<(), Fail> {
-    check_eq(check(&[], 0), BAD_COUNT)?;
-    check_eq(check(&[], 4001), BAD_COUNT)?;
-    check_eq(check(&[], 1), BAD_LENGTH)?;
-    check_eq(check(&[0; 195], 1), BAD_LENGTH)?;
-    check_eq(check(&[0; 196], 1), bad_field(0))?;
-    check_eq(check(&[0; 197], 1), BAD_LENGTH)?;
-    let bytes = vec![in rt.alloc(); 0u8; 392_098]?;
-    check_eq(check(bytes.as_slice(), 4000), bad_field(0))?;
-    check_eq(check(bytes.as_slice(), 3999), BAD_LENGTH)?;
-    check_eq(check(bytes.as_slice(), 4001), BAD_COUNT)
+    let bytes = vec![in rt.alloc(); 0u8; 392_099]?;
+    let sizes = [
+        (0, 0, BAD_COUNT),
+        (98, 0, BAD_COUNT),
+        (0, 1, BAD_LENGTH),
+        (195, 1, BAD_LENGTH),
+        (196, 1, bad_field(0)),
+        (197, 1, BAD_LENGTH),
+        (392_097, 4000, BAD_LENGTH),
+        (392_098, 4000, bad_field(0)),
+        (392_099, 4000, BAD_LENGTH),
+        (392_098, 4001, BAD_COUNT),
+    ];
+    for (length, bills, answer) in sizes {
+        check_eq(check(bytes.as_slice().get(0..length).unwrap_or(&[]), bills), answer)?;
+    }
+    Ok(())
 }
 
 #[test]
