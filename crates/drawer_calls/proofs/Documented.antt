@@ -7,8 +7,8 @@ use Rattle.std.proofs.shelf.Tests.{cond-true}
 use Rattle.std.specs.Results.{isOk}
 use Rattle.std.specs.declared.result.Result.the-variants.{Ok}
 use Rattle.ledger.specs.Held.{Heads, nothing}
-use Rattle.ledger.specs.Calls.{afterAll}
-use Rattle.ledger.specs.declared.calls.HeadCall.{HeadCall}
+use Rattle.ledger_calls.specs.Calls.{afterAll}
+use Rattle.ledger_calls.specs.declared.HeadCall.{HeadCall}
 use Rattle.drawer_image.specs.Checks.{Answer, checked, Passes}
 use Rattle.drawer.specs.Meaning.{documented, bytesHeld, made}
 use Rattle.drawer.proofs.Checks.{holds-documented}

@@ -4,8 +4,8 @@ ghost use Prim.Native.Nat.{ℕ, _+_, _<_, _≤_};
 ghost use Rattle.std.specs.declared.result.Result.the-variants.{Ok};
 ghost use Rattle.std.specs.Results.{isOk};
 ghost use mathlib.Core.Bool.{false};
-ghost use Rattle.ledger.specs.Calls.{afterAll};
-ghost use Rattle.ledger.specs.Books.{journal, acceptedIn};
+ghost use Rattle.ledger_calls.specs.Calls.{afterAll};
+ghost use Rattle.ledger_calls.specs.Books.{journal, acceptedIn};
 ghost use Rattle.drawer_image.specs.Checks.{Passes, checked};
 ghost use Rattle.drawer.specs.Meaning.{documented, made};
 ghost use Rattle.drawer_calls.specs.Piles.{pileHeld};
@@ -18,8 +18,8 @@ use layers::limit::LimitLedger;
 use layers::tally::Tally;
 use layers::tally::TallyLedger;
 use ledger::HEADS;
-use ledger::calls::HeadCall;
-use ledger::calls::make_calls;
+use ledger_calls::HeadCall;
+use ledger_calls::make_calls;
 
 // Makes calls in order on the drawer in bytes, refused ones included. Bytes that pass the check pass it
 // afterwards, and what they are documented to hold is what the calls make of what they held. Bytes that are

@@ -7,7 +7,7 @@ use ledger::Ledger;
 use ledger::LedgerFault;
 use ledger::LedgerFaultDebug;
 use ledger::LedgerFaultPartialEq;
-use ledger::calls::Call;
+use ledger_calls::Call;
 use number::Number;
 use std::test::*;
 

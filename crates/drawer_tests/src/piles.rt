@@ -15,8 +15,8 @@ use layers::tally::TallyLedger;
 use ledger::LedgerFault;
 use ledger::LedgerFaultDebug;
 use ledger::LedgerFaultPartialEq;
-use ledger::calls::Call;
-use ledger::calls::HeadCall;
+use ledger_calls::Call;
+use ledger_calls::HeadCall;
 use number::Number;
 use std::test::*;
 

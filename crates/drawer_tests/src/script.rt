@@ -3,8 +3,8 @@ use ledger::Ledger;
 use ledger::LedgerFault;
 use ledger::LedgerFaultDebug;
 use ledger::LedgerFaultPartialEq;
-use ledger::calls::Call;
-use ledger::calls::make_call;
+use ledger_calls::Call;
+use ledger_calls::make_call;
 use number::Number;
 use std::test::*;
 

@@ -8,7 +8,6 @@
 use Prim.Native.Nat.{ℕ, _+_, min}
 use Rattle.std.specs.declared.result.Result.the-variants.{Ok, Err}
 use Rattle.ledger.specs.Answers.{Answer}
-use Rattle.ledger.specs.declared.LedgerFault.{LedgerFault}
 use Rattle.ledger.specs.declared.LedgerFault.the-variants.{NoSuchHead, BadAmount, AlreadyPromised, NoPlace, NonePromised}
 
 abbrev pub mostDepth : ℕ

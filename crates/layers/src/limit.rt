@@ -1,7 +1,6 @@
 // A limit on the promises of each head, over any ledger.
 ghost use mathlib.Core.Path.{_≡_};
 ghost use mathlib.Core.Bool.{cond};
-ghost use Prim.Native.Nat.{ℕ, _+_, _-_, _*_, _<_, _≤_};
 ghost use lib.ListN.{getD};
 ghost use Rattle.std.specs.Results.{isOk};
 ghost use Rattle.ledger.specs.Starts.{accepted};

@@ -1,6 +1,5 @@
 // A tally of the settled bills of each head, over any ledger.
 ghost use mathlib.Core.Path.{_≡_};
-ghost use Prim.Native.Nat.{ℕ, _+_, _-_, _*_, _<_, _≤_};
 ghost use lib.ListN.{getD, replicate};
 ghost use Rattle.std.specs.Options.{valueOr};
 ghost use Rattle.ledger.specs.Held.{heads};

@@ -1,21 +1,17 @@
 -- What calls do to the money. Assumes nothing.
-use mathlib.Core.Path.{_≡_, refl, sym, ap, _∙_}
-use mathlib.Core.Bool.{Bool, true, false, cond, _||_}
-use mathlib.Core.Logic.{_⊎_, inl, inr}
-use Prim.Native.Nat.{ℕ, zero, suc, _+_, _-_, _<_, _≤_}
+use mathlib.Core.Path.{_≡_, refl}
+use mathlib.Core.Bool.{true, false}
+use Prim.Native.Nat.{ℕ}
 use native.Mathlib.Omega.{arith}
-use lib.Dec.{eqb, ltb, leb}
 use Rattle.std.proofs.shelf.Ways.{tells}
-use Rattle.std.proofs.shelf.Tests.{leb-true, leb-false, le-leb, lt-leb, eq-eqb, ne-eqb, lt-ltb, le-ltb, or-left, or-right, or-from, eqb-false, cond-true, cond-false, both-ways}
-use Rattle.std.specs.Options.{isSome, valueOr}
+use Rattle.std.proofs.shelf.Tests.{both-ways}
+use Rattle.std.specs.Options.{isSome}
 use Rattle.std.specs.Results.{isOk}
 use Rattle.std.specs.declared.option.Option.{Option}
 use Rattle.std.specs.declared.option.Option.the-variants.{Some, None}
-use Rattle.std.specs.declared.result.Result.the-variants.{Ok, Err}
-use Rattle.ledger.specs.Held.{heads, mostAmount, Held, Heads, withHead, promising, settling, givingBack}
-use Rattle.ledger.specs.Answers.{Answer, itsNumber, promiseAnswer, endAnswer, promisedAfter, settledAfter, givenBackAfter}
-use Rattle.ledger.specs.Laws.{OthersStay, Promised, Settled, GivenBack, PromisesAsListed, EndsAsListed, AcceptedAsNamed, RefusedChangesNothing, CallsKeepToTheirHead}
-use Rattle.ledger.specs.declared.LedgerFault.the-variants.{NoSuchHead, BadAmount, AlreadyPromised, NoPlace, NonePromised}
+use Rattle.ledger.specs.Held.{Heads}
+use Rattle.ledger.specs.Answers.{promiseAnswer, endAnswer, promisedAfter, settledAfter, givenBackAfter}
+use Rattle.ledger.specs.Laws.{Promised, Settled, GivenBack, PromisesAsListed, EndsAsListed, AcceptedAsNamed, RefusedChangesNothing}
 
 pub promises-as-listed : PromisesAsListed
 promises-as-listed = record {

@@ -1,7 +1,7 @@
 -- One start more, and what accepted starts come to. Assumes nothing.
 use mathlib.Core.Path.{_≡_, sym, ap, _∙_}
 use mathlib.Core.List.{List, [], _∷_}
-use mathlib.Core.Bool.{Bool, true, false, _&&_}
+use mathlib.Core.Bool.{Bool, true, _&&_}
 use Prim.Native.Nat.{ℕ, zero, suc, _+_, _<_, _≤_}
 use native.Mathlib.Numerals.{add-one}
 use native.Mathlib.Omega.{arith}
@@ -9,19 +9,17 @@ use lib.Dec.{leb}
 use lib.ListN.{length, getD, drop}
 use lib.Seq.{drop-cons}
 use Rattle.std.proofs.shelf.Lists.{drop-all}
-use Rattle.std.proofs.shelf.Tests.{le-leb, lt-leb, leb-true, and-parts}
+use Rattle.std.proofs.shelf.Tests.{leb-true, and-parts}
 use Rattle.ledger.specs.Held.{mostPlaces}
 use Rattle.ledger.specs.Starts.{allFit}
 
--- whether the starts from i on fit, by start i and those after it
-one : (xs : List ℕ) (i : ℕ) → i < length xs → allFit (drop i xs) ≡ (leb (getD xs i 0) mostPlaces && allFit (drop (i + 1) xs))
-one xs i lt = ap allFit (drop-cons xs i 0 lt) ∙ ap (λ n. leb (getD xs i 0) mostPlaces && allFit (drop n xs)) (sym (add-one i))
-
-pub fit-more : (xs : List ℕ) (i : ℕ) → i < length xs → getD xs i 0 ≤ mostPlaces → allFit (drop i xs) ≡ allFit (drop (i + 1) xs)
-fit-more xs i lt le = one xs i lt ∙ ap (λ b. b && allFit (drop (i + 1) xs)) (le-leb (getD xs i 0) mostPlaces le)
-
-pub fit-not : (xs : List ℕ) (i : ℕ) → i < length xs → mostPlaces < getD xs i 0 → allFit (drop i xs) ≡ false
-fit-not xs i lt gt = one xs i lt ∙ ap (λ b. b && allFit (drop (i + 1) xs)) (lt-leb (getD xs i 0) mostPlaces gt)
+-- whether the starts from i on fit, by whether start i does
+pub fit-from : (xs : List ℕ) (i : ℕ) (fits : Bool) → i < length xs → fits ≡ leb (getD xs i 0) mostPlaces →
+    allFit (drop i xs) ≡ (fits && allFit (drop (i + 1) xs))
+fit-from xs i fits lt is =
+    ap allFit (drop-cons xs i 0 lt)
+    ∙ ap (λ n. leb (getD xs i 0) mostPlaces && allFit (drop n xs)) (sym (add-one i))
+    ∙ ap (λ b. b && allFit (drop (i + 1) xs)) (sym is)
 
 pub fit-end : (xs : List ℕ) (i : ℕ) → length xs ≤ i → allFit (drop i xs) ≡ true
 fit-end xs i le = ap allFit (drop-all i xs le)

@@ -23,7 +23,7 @@ use Rattle.std.specs.declared.result.Result.{Result}
 use Rattle.std.specs.declared.result.Result.the-variants.{Ok, Err}
 use Rattle.number.specs.Shown.{shown}
 use Rattle.number.specs.declared.Number.{Number}
-use Rattle.ledger.specs.Held.{heads, mostAmount, Held, Heads, withHead, promising, settling, givingBack}
+use Rattle.ledger.specs.Held.{heads, mostAmount, Heads, withHead, promising, settling, givingBack}
 use Rattle.ledger.specs.declared.LedgerFault.{LedgerFault}
 use Rattle.ledger.specs.declared.LedgerFault.the-variants.{NoSuchHead, BadAmount, AlreadyPromised, NoPlace, NonePromised}
 

@@ -17,7 +17,7 @@ use Prim.Native.Nat.{ℕ, suc, _+_, _<_, _≤_}
 use Rattle.std.specs.Results.{isOk}
 use Rattle.std.specs.declared.option.Option.the-variants.{Some, None}
 use Rattle.std.specs.declared.result.Result.the-variants.{Ok, Err}
-use Rattle.ledger.specs.Held.{heads, mostAmount, Held, Heads}
+use Rattle.ledger.specs.Held.{heads, mostAmount, Heads}
 use Rattle.ledger.specs.Answers.{itsNumber, promiseAnswer, endAnswer, promisedAfter, settledAfter, givenBackAfter}
 use Rattle.ledger.specs.declared.LedgerFault.the-variants.{NoSuchHead, BadAmount, AlreadyPromised, NoPlace, NonePromised}
 

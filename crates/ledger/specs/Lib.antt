@@ -3,5 +3,3 @@ pub mod Answers
 pub mod Laws
 pub mod Starts
 pub mod Tables
-pub mod Calls
-pub mod Books

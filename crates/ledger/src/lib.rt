@@ -2,8 +2,8 @@
 // how many places are free in its cash box. The trait says all that may be relied on; `table` is the plainest
 // ledger there is.
 ghost use mathlib.Core.Path.{_≡_};
-ghost use Prim.Native.Nat.{ℕ, _<_, _≤_};
-ghost use Rattle.ledger.specs.Held.{heads, Held, Heads, nothing, Within, Amount};
+ghost use Prim.Native.Nat.{ℕ, _≤_};
+ghost use Rattle.ledger.specs.Held.{heads, Heads, nothing, Within, Amount};
 ghost use Rattle.ledger.specs.Starts.{startFaultNumber};
 ghost use Rattle.ledger.specs.Answers.{faultNumber, question, promiseAnswer, endAnswer, promisedAfter, settledAfter, givenBackAfter};
 use number::Number;
@@ -11,7 +11,6 @@ use number::NumberDebug;
 use number::NumberPartialEq;
 use std::fmt;
 
-pub mod calls;
 mod head_record;
 pub mod laws;
 pub mod starts;

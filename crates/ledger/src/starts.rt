@@ -1,7 +1,7 @@
 // The numbers that a table or a limit starts with, one for each head: first checked, then made into a ledger.
 ghost use mathlib.Core.Path.{_≡_};
-ghost use mathlib.Core.Bool.{cond};
 ghost use Prim.Native.Nat.{ℕ, _≤_};
+ghost use lib.Dec.{leb};
 ghost use lib.ListN.{getD};
 ghost use Rattle.ledger.specs.Held.{mostPlaces};
 ghost use Rattle.ledger.specs.Starts.{allFit, startsAnswer, accepted};
@@ -9,11 +9,17 @@ use crate::HEADS;
 use crate::MOST_PLACES;
 use crate::StartFault;
 
+fn fits(start: u16) -> bool
+    ensures { λ r. ⌜ r ≡ leb start mostPlaces ⌝ }
+{
+    start <= MOST_PLACES
+}
+
 fn all_fit(starts: &[u16; HEADS]) -> bool
     ensures { λ r. ⌜ r ≡ allFit (now (starts .entry)) ⌝ }
 {
     for start in starts {
-        if *start > MOST_PLACES {
+        if !fits(*start) {
             return false;
         }
     }

@@ -1,7 +1,5 @@
 // The plainest ledger: fourteen records.
 ghost use mathlib.Core.Path.{_≡_};
-ghost use Prim.Native.Nat.{ℕ, _+_, _-_, _*_, _<_, _≤_};
-ghost use lib.ListN.{getD, set};
 ghost use Rattle.ledger.specs.Tables.{tableHeld, tableBeyond, tableWithin, tableAmounts, fresh};
 use crate::HEADS;
 use crate::Ledger;

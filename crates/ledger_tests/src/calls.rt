@@ -1,16 +1,14 @@
 // Calls in order, on a table and through a pile.
+use crate::script::*;
 use layers::limit::Limit;
 use layers::limit::LimitLedger;
 use layers::tally::Tally;
 use layers::tally::TallyLedger;
-use ledger::Ledger;
-use ledger::LedgerFaultDebug;
-use ledger::LedgerFaultPartialEq;
-use ledger::calls::Call;
-use ledger::calls::HeadCall;
-use ledger::calls::make_calls;
 use ledger::table::Table;
 use ledger::table::TableLedger;
+use ledger_calls::Call;
+use ledger_calls::HeadCall;
+use ledger_calls::make_calls;
 use std::test::*;
 
 const CALLS: [HeadCall; 8] = [
@@ -52,22 +50,45 @@ const CALLS: [HeadCall; 8] = [
 fn calls_come_to_what_was_settled() -> Result<(), Fail> {
     let mut table = Table::new([2; 14]);
     check_eq(make_calls(&mut table, &CALLS), 5)?;
-    check_eq(table.credited(3), Ok(500))?;
-    check_eq(table.promised(3), Ok(None))?;
-    check_eq(table.places(3), Ok(1))?;
-    check_eq(table.promised(4), Ok(Some(7)))?;
-    check_eq(table.credited(4), Ok(0))
+    check_holds(
+        &table,
+        &[
+            Holds {
+                head: 3,
+                promised: None,
+                credited: 500,
+                places: 1,
+            },
+            Holds {
+                head: 4,
+                promised: Some(7),
+                credited: 0,
+                places: 1,
+            },
+        ],
+    )
 }
 
+// The limit's one promise for head 3 is spent when the second is asked for, so its give-back is refused as well.
 #[test]
-fn calls_come_to_the_same_through_a_pile() -> Result<(), Fail> {
+fn calls_through_a_pile_stop_at_its_limit() -> Result<(), Fail> {
     let mut pile = Limit::new([1; 14], Tally::new(Table::new([2; 14])));
-    // The limit's one promise for head 3 is spent when the second is called for, so its give-back is refused too.
     check_eq(make_calls(&mut pile, &CALLS), 3)?;
-    check_eq(pile.credited(3), Ok(500))?;
-    check_eq(pile.promised(3), Ok(None))?;
-    check_eq(pile.left(3), Ok(0))?;
-    let tally = pile.into_below();
-    check_eq(tally.count(3), Ok(1))?;
-    check_eq(tally.latest(3), Ok(500))
+    check_holds(
+        &pile,
+        &[
+            Holds {
+                head: 3,
+                promised: None,
+                credited: 500,
+                places: 0,
+            },
+            Holds {
+                head: 4,
+                promised: Some(7),
+                credited: 0,
+                places: 0,
+            },
+        ],
+    )
 }

@@ -1,9 +1,9 @@
 use mathlib.Core.Path.{_≡_}
 use Prim.Native.Nat.{_+_, _≤_}
 use lib.ListN.{drop}
-use Rattle.ledger.specs.Calls.{afterAll}
-use Rattle.ledger.specs.Books.{journal, acceptedIn}
-use Rattle.ledger.proofs.calls.make_calls.Given as given
+use Rattle.ledger_calls.specs.Calls.{afterAll}
+use Rattle.ledger_calls.specs.Books.{journal, acceptedIn}
+use Rattle.ledger_calls.proofs.make_calls.Given as given
 
 -- the calls so far and those to come are all calls
 abbrev pub Inv-loop-it : given.InvT-loop-it

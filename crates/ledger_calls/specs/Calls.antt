@@ -7,11 +7,11 @@
 -- Assumes nothing.
 use mathlib.Core.List.{List, [], _∷_}
 use Prim.Native.Nat.{ℕ}
 use Rattle.ledger.specs.Held.{Heads}
 use Rattle.ledger.specs.Answers.{Answer, promiseAnswer, endAnswer, promisedAfter, settledAfter, givenBackAfter}
-use Rattle.ledger.specs.declared.calls.Call.{Call}
-use Rattle.ledger.specs.declared.calls.Call.the-variants.{Promise, Settle, GiveBack}
-use Rattle.ledger.specs.declared.calls.HeadCall.{HeadCall}
+use Rattle.ledger_calls.specs.declared.Call.{Call}
+use Rattle.ledger_calls.specs.declared.Call.the-variants.{Promise, Settle, GiveBack}
+use Rattle.ledger_calls.specs.declared.HeadCall.{HeadCall}
 
 abbrev pub callAnswer : Heads → ℕ → ℕ → Call → Answer
 callAnswer t d h (Promise a) = promiseAnswer t d h a

@@ -1,11 +1,11 @@
 // The calls that change a ledger as values, and making many of them in order.
 ghost use mathlib.Core.Path.{_≡_};
-ghost use Prim.Native.Nat.{ℕ, _+_, _≤_};
+ghost use Prim.Native.Nat.{ℕ};
 ghost use Rattle.ledger.specs.Held.{Within};
-ghost use Rattle.ledger.specs.Calls.{callAnswer, callAfter, afterAll};
-ghost use Rattle.ledger.specs.Books.{journal, acceptedIn, Balanced, RefusedCallsLeaveNoTrace};
-use crate::Ledger;
-use crate::LedgerFault;
+ghost use Rattle.ledger_calls.specs.Calls.{callAnswer, callAfter, afterAll};
+ghost use Rattle.ledger_calls.specs.Books.{journal, acceptedIn, Balanced, RefusedCallsLeaveNoTrace};
+use ledger::Ledger;
+use ledger::LedgerFault;
 
 // A call that changes what is held for a head.
 #[derive(Clone, Copy, Debug, PartialEq, Eq)]

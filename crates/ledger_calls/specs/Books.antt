@@ -20,11 +20,11 @@ use Prim.Native.Nat.{ℕ, _+_}
 use lib.Dec.{eqb}
 use Rattle.std.specs.Options.{valueOr}
 use Rattle.std.specs.Results.{isOk}
 use Rattle.ledger.specs.Held.{Held, Heads}
-use Rattle.ledger.specs.Calls.{callAnswer, callAfter, afterAll}
-use Rattle.ledger.specs.declared.calls.Call.{Call}
-use Rattle.ledger.specs.declared.calls.Call.the-variants.{Promise, Settle, GiveBack}
-use Rattle.ledger.specs.declared.calls.HeadCall.{HeadCall}
+use Rattle.ledger_calls.specs.Calls.{callAnswer, callAfter, afterAll}
+use Rattle.ledger_calls.specs.declared.Call.{Call}
+use Rattle.ledger_calls.specs.declared.Call.the-variants.{Promise, Settle, GiveBack}
+use Rattle.ledger_calls.specs.declared.HeadCall.{HeadCall}
 
 pub data Fate : Type 0 where
   promised : (amount : ℕ) → Fate

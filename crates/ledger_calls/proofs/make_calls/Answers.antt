@@ -2,12 +2,12 @@ use mathlib.Core.Path.{_≡_, refl, sym, ap, subst, _∙_}
 use Prim.Native.Nat.{_+_}
 use native.Mathlib.Omega.{arith}
 use lib.ListN.{drop}
 use Rattle.ledger.specs.Held.{Heads}
-use Rattle.ledger.specs.Calls.{afterAll}
-use Rattle.ledger.specs.Books.{journal, acceptedIn, Balanced}
-use Rattle.ledger.proofs.Balances.{oneIfOk, balanced, refused-calls-leave-no-trace, turn-after, turn-accepted, last-after, last-accepted}
-use Rattle.ledger.proofs.calls.make_calls.Needs as need
-use Rattle.ledger.proofs.calls.make_calls.Needs.{in-Ok, in-rest}
+use Rattle.ledger_calls.specs.Calls.{afterAll}
+use Rattle.ledger_calls.specs.Books.{journal, acceptedIn, Balanced}
+use Rattle.ledger_calls.proofs.Balances.{oneIfOk, balanced, refused-calls-leave-no-trace, turn-after, turn-accepted, last-after, last-accepted}
+use Rattle.ledger_calls.proofs.make_calls.Needs as need
+use Rattle.ledger_calls.proofs.make_calls.Needs.{in-Ok, in-rest}
 
 pub loop-it-holds : need.loop-it-holds
 loop-it-holds g c = (omega arith, omega arith, refl, g .L·Ledger .stays (c .args .ledger .now))

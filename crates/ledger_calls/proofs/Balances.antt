@@ -1,26 +1,23 @@
 -- The books balance over any calls. Assumes nothing.
-use mathlib.Core.Path.{_≡_, refl, sym, ap, _∙_}
-use mathlib.Core.List.{List, [], _∷_, _++_}
-use mathlib.Core.Bool.{Bool, true, false, cond}
-use Prim.Native.Nat.{ℕ, zero, suc, _+_, _<_, _≤_}
+use mathlib.Core.Path.{_≡_, sym, ap, _∙_}
+use mathlib.Core.List.{List, [], _∷_}
+use mathlib.Core.Bool.{false, cond}
+use Prim.Native.Nat.{ℕ, _+_, _<_, _≤_}
 use native.Mathlib.Omega.{arith}
 use native.Mathlib.Numerals.{add-one}
-use lib.Dec.{eqb}
 use lib.ListN.{length, getD, drop}
 use lib.Seq.{drop-cons}
 use Rattle.std.proofs.shelf.Lists.{drop-all}
-use Rattle.std.proofs.shelf.Tests.{cases-bool, eqb-true, eqb-false}
 use Rattle.std.proofs.shelf.Ways.{tells}
 use Rattle.std.specs.Results.{isOk}
-use Rattle.ledger.specs.Held.{Held, Heads}
+use Rattle.ledger.specs.Held.{Heads}
 use Rattle.ledger.specs.Answers.{Answer}
-use Rattle.ledger.specs.Laws.{Promised, Settled, GivenBack}
-use Rattle.ledger.specs.Calls.{callAnswer, callAfter, afterAll}
-use Rattle.ledger.specs.Books.{Fate, promised, settled, given-back, refused, Entry, owed, fateOf, entryOf, journal, one, acceptedIn, sumFor, promisedWorth, settledWorth, givenBackWorth, placesTaken, placesFreed, BalancedAt, Balanced, RefusedCallsLeaveNoTrace}
-use Rattle.ledger.specs.declared.calls.Call.{Call}
-use Rattle.ledger.specs.declared.calls.Call.the-variants.{Promise, Settle, GiveBack}
-use Rattle.ledger.specs.declared.calls.HeadCall.{HeadCall}
-use Rattle.ledger.proofs.CallLaws.{promise-accepted, settle-accepted, give-back-accepted, refused-changes-nothing}
+use Rattle.ledger_calls.specs.Calls.{callAnswer, callAfter, afterAll}
+use Rattle.ledger_calls.specs.Books.{Fate, refused, Entry, fateOf, entryOf, journal, one, acceptedIn, sumFor, BalancedAt, Balanced, RefusedCallsLeaveNoTrace}
+use Rattle.ledger_calls.specs.declared.Call.{Call}
+use Rattle.ledger_calls.specs.declared.Call.the-variants.{Promise, Settle, GiveBack}
+use Rattle.ledger_calls.specs.declared.HeadCall.{HeadCall}
+use Rattle.ledger.proofs.CallLaws.{refused-changes-nothing}
 
 pub refused-stays : (t : Heads) (d h : ℕ) (c : Call) → isOk (callAnswer t d h c) ≡ false → callAfter t h c ≡ t
 refused-stays t d h (Promise a) is = refused-changes-nothing .promise t d h a is
