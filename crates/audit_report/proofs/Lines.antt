@@ -4,7 +4,7 @@ use mathlib.Core.List.{List, [], _++_}
 use Prim.Native.Nat.{ℕ, _+_}
 use native.Mathlib.Numerals.{add-one}
 use Rattle.ledger.specs.Held.{heads, Heads}
-use Rattle.drawer_image.specs.Checks.{checked, Passes}
+use Rattle.drawer_image.specs.Checks.{Passes}
 use Rattle.drawer.specs.Meaning.{bytesHeld}
 use Rattle.drawer.proofs.Checks.{holds-documented}
 use Rattle.audit_report.specs.Reports.{lineOf, ended, linesOf, reportBy, reportOf}

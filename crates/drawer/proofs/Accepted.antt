@@ -1,42 +1,41 @@
 -- The three calls, when they are accepted. Assumes nothing.
-use mathlib.Core.Path.{_≡_, refl, sym, ap, ap₂, subst, fun-ext, _∙_}
-use mathlib.Core.Logic.{_≢_, _⊎_, inl, inr, ⊎-elim}
+use mathlib.Core.Path.{_≡_, refl, sym, ap, ap₂, _∙_}
+use mathlib.Core.Logic.{_⊎_, ⊎-elim}
 use mathlib.Core.List.{List}
-use mathlib.Core.Bool.{Bool, true, false, cond, _&&_, _||_, not}
-use Prim.Native.Nat.{ℕ, zero, suc, _+_, _-_, _*_, _^_, _<_, _≤_}
+use mathlib.Core.Bool.{true, false, cond}
+use Prim.Native.Nat.{ℕ, suc, _+_, _-_, _*_, _<_, _≤_}
 use native.Mathlib.Omega.{arith}
-use lib.Dec.{eqb, leb, ltb}
+use lib.Dec.{eqb, ltb}
 use lib.ListN.{length}
-use Rattle.std.proofs.shelf.Tests.{cond-true, cond-false, eq-eqb, ne-eqb, eqb-true, ltb-true, or-cases}
+use Rattle.std.proofs.shelf.Tests.{eq-eqb, ne-eqb, eqb-true, ltb-true, or-cases}
 use Rattle.std.specs.Options.{isSome}
-use Rattle.std.specs.declared.option.Option.{Option}
 use Rattle.std.specs.declared.option.Option.the-variants.{Some, None}
-use Rattle.std.specs.declared.result.Result.the-variants.{Ok, Err}
-use Rattle.ledger.specs.Held.{heads, mostAmount, Held, Heads, withHead, promising, settling, givingBack}
-use Rattle.ledger.specs.Answers.{Answer, promiseAnswer, endAnswer, promisedAfter, settledAfter, givenBackAfter}
+use Rattle.std.specs.declared.result.Result.the-variants.{Ok}
+use Rattle.ledger.specs.Held.{heads, mostAmount, Held, withHead, promising, settling, givingBack}
+use Rattle.ledger.specs.Answers.{promiseAnswer, endAnswer, promisedAfter, settledAfter, givenBackAfter}
 use Rattle.drawer_image.specs.declared.section.Section.{Section}
 use Rattle.drawer_image.specs.Fields.{amountAt}
-use Rattle.drawer.specs.Writes.{putAmount, putSettled, nextFree, settlingBytes}
-use Rattle.drawer_image.specs.Sections.{freeIn, creditedIn, badIn, covered, sectionOf, promiseOf}
-use Rattle.drawer_image.specs.Checks.{sized, sound, sectionAt, emptySection, Passes}
+use Rattle.drawer.specs.Writes.{putAmount, putSettled, settlingBytes}
+use Rattle.drawer_image.specs.Sections.{freeIn, creditedIn, sectionOf, promiseOf}
+use Rattle.drawer_image.specs.Checks.{sectionAt, Passes}
 use Rattle.drawer.specs.Meaning.{heldIn, bytesHeld}
 use Rattle.drawer_image.proofs.Lawful.{lawful-at, each}
 use Rattle.drawer_image.proofs.Earliest.{room}
-use Rattle.drawer_image.proofs.Sounds.{Sized, Sound, Usable, usable}
+use Rattle.drawer_image.proofs.Sounds.{usable}
 use Rattle.drawer.proofs.Moves.{says, located}
 use Rattle.drawer.specs.Theorems.{SettlesIntoFirstFree}
 use Rattle.drawer_image.proofs.Passed.{passes-sounds}
 use Rattle.drawer_image.proofs.Judges.{free-zero}
-use Rattle.drawer.proofs.Meanings.{Moved, held-moved, promise-moved, settle-moved}
+use Rattle.drawer.proofs.Meanings.{held-moved, promise-moved, settle-moved}
 use Rattle.drawer.proofs.Checks.{moved-passes}
-use Rattle.drawer.proofs.Calls.{end-none, end-some, settled-so, given-so, promise-ok, promised-so}
+use Rattle.drawer.proofs.Calls.{end-some, settled-so, given-so, promise-ok, promised-so}
 
 -- a heldIn, with a promise and without
-view-some : (p c f : ℕ) → 0 < p → heldIn (says p c f) ≡ record { promised = Some p; credited = c; places = f - 1 }
-view-some p c f lt = ap (λ z. record { promised = cond z None (Some p); credited = c; places = f - cond z 0 1 }) (ne-eqb p 0 (λ e. omega arith))
+held-some : (p c f : ℕ) → 0 < p → heldIn (says p c f) ≡ record { promised = Some p; credited = c; places = f - 1 }
+held-some p c f lt = ap (λ z. record { promised = cond z None (Some p); credited = c; places = f - cond z 0 1 }) (ne-eqb p 0 (λ e. omega arith))
 
-view-none : (p c f : ℕ) → p ≡ 0 → heldIn (says p c f) ≡ record { promised = None; credited = c; places = f }
-view-none p c f e = ap (λ z. record { promised = cond z None (Some p); credited = c; places = f - cond z 0 1 }) (eq-eqb p 0 e) ∙ (let q : f - 0 ≡ f = omega arith in ap (λ n. record { promised = None; credited = c; places = n }) q)
+held-none : (p c f : ℕ) → p ≡ 0 → heldIn (says p c f) ≡ record { promised = None; credited = c; places = f }
+held-none p c f e = ap (λ z. record { promised = cond z None (Some p); credited = c; places = f - cond z 0 1 }) (eq-eqb p 0 e) ∙ (let q : f - 0 ≡ f = omega arith in ap (λ n. record { promised = None; credited = c; places = n }) q)
 
 pub some-promised : (s : Section) → 0 < s .promised → isSome (heldIn s .promised) ≡ true
 some-promised s lt = ap (λ z. isSome (cond z None (Some (s .promised)))) (ne-eqb (s .promised) 0 (λ e. omega arith))
@@ -45,7 +44,7 @@ pub none-promised : (s : Section) → s .promised ≡ 0 → isSome (heldIn s .pr
 none-promised s e = ap (λ z. isSome (cond z None (Some (s .promised)))) (eq-eqb (s .promised) 0 e)
 
 pub places-none : (s : Section) → s .promised ≡ 0 → heldIn s .places ≡ s .free
-places-none s e = ap (λ (v : Held). v .places) (view-none (s .promised) (s .credited) (s .free) e)
+places-none s e = ap (λ (v : Held). v .places) (held-none (s .promised) (s .credited) (s .free) e)
 
 pub promise-call : (bs : List ℕ) (k h a : ℕ) → h < heads → 0 < a → a ≤ mostAmount → sectionAt bs k h .promised ≡ 0 → 0 < sectionAt bs k h .free
     → (promiseAnswer (bytesHeld bs k) 0 h a ≡ Ok tt) × (bytesHeld (putAmount bs (promiseOf k h) a) k ≡ promisedAfter (bytesHeld bs k) h a) × (Passes bs k → Passes (putAmount bs (promiseOf k h) a) k)
@@ -59,9 +58,9 @@ promise-call bs k h a le least most none some =
     let answer = promise-ok t h le a least most 0 (none-promised s none) (λ z. omega (arith, places-none s none)) in
     let w = promise-moved bs k h a le (u .size) (u .safe .good) most (λ _. omega arith) in
     let m = held-moved bs (putAmount bs b a) k h _ w in
-    let before = view-none (s .promised) (s .credited) (s .free) none in
+    let before = held-none (s .promised) (s .credited) (s .free) none in
     let after : heldIn (says a (creditedIn bs b k) (freeIn bs b k)) ≡ promising (heldIn s) a =
-    view-some a (creditedIn bs b k) (freeIn bs b k) least
+    held-some a (creditedIn bs b k) (freeIn bs b k) least
     ∙ ap₂ (λ c f. record { promised = Some a; credited = c; places = f - 1 }) (sym sum) (sym free)
     ∙ ap (λ v. promising v a) (sym before) in
     (answer, m ∙ ap (withHead t h) after ∙ sym (promised-so t h le a least most answer), moved-passes bs (putAmount bs b a) k h _ w)
@@ -78,10 +77,10 @@ give-call bs k h le held =
     let sum : s .credited ≡ creditedIn bs b k = ap (λ (x : Section). x .credited) (u .says) in
     let w = promise-moved bs k h 0 le (u .size) (u .safe .good) (omega arith) (λ z. absurd (omega arith)) in
     let m = held-moved bs (putAmount bs b 0) k h _ w in
-    let before = view-some (s .promised) (s .credited) (s .free) held in
+    let before = held-some (s .promised) (s .credited) (s .free) held in
     let back : freeIn bs b k ≡ s .free - 1 + 1 = omega arith in
     let after : heldIn (says 0 (creditedIn bs b k) (freeIn bs b k)) ≡ givingBack (heldIn s) =
-    view-none 0 (creditedIn bs b k) (freeIn bs b k) refl
+    held-none 0 (creditedIn bs b k) (freeIn bs b k) refl
     ∙ ap₂ (λ c f. record { promised = None; credited = c; places = f }) (sym sum) back
     ∙ ap givingBack (sym before) in
     (end-some t h le (some-promised s held), m ∙ ap (withHead t h) after ∙ sym (given-so t h le (some-promised s held)), moved-passes bs (putAmount bs b 0) k h _ w)
@@ -101,9 +100,9 @@ settle-call bs k h le held =
     let amount : s .promised ≡ amountAt bs b = ap (λ (x : Section). x .promised) (u .says) in
     let w = settle-moved bs k h u (omega arith) (omega arith) (omega arith) in
     let m = held-moved bs (settlingBytes bs k h) k h _ w in
-    let before = view-some (s .promised) (s .credited) (s .free) held in
+    let before = held-some (s .promised) (s .credited) (s .free) held in
     let after : heldIn (says 0 (creditedIn bs b k + amountAt bs b) (freeIn bs b k - 1)) ≡ settling (heldIn s) =
-    view-none 0 (creditedIn bs b k + amountAt bs b) (freeIn bs b k - 1) refl
+    held-none 0 (creditedIn bs b k + amountAt bs b) (freeIn bs b k - 1) refl
     ∙ ap₂ (λ c f. record { promised = None; credited = c; places = f - 1 }) (ap₂ (λ x y. x + y) (sym sum) (sym amount)) (sym free)
     ∙ ap settling (sym before) in
     (end-some t h le (some-promised s held), m ∙ ap (withHead t h) after ∙ sym (settled-so t h le (some-promised s held)), moved-passes bs (settlingBytes bs k h) k h _ w)

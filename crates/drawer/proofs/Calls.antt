@@ -1,5 +1,5 @@
--- What the calls of any ledger answer, case by case. Assumes nothing.
-use mathlib.Core.Path.{_≡_, refl, sym, ap, ap₂, _∙_}
+-- What the accepted calls of any ledger answer, and what is then held. Assumes nothing.
+use mathlib.Core.Path.{_≡_, refl, ap, _∙_}
 use mathlib.Core.Bool.{Bool, true, false, cond, _||_}
 use Prim.Native.Nat.{ℕ, _<_, _≤_}
 use native.Mathlib.Omega.{arith}
@@ -9,10 +9,10 @@ use Rattle.std.specs.Options.{isSome}
 use Rattle.std.specs.Results.{isOk}
 use Rattle.std.specs.declared.result.Result.{Result}
 use Rattle.std.specs.declared.result.Result.the-variants.{Ok, Err}
-use Rattle.ledger.specs.Held.{heads, mostAmount, Held, Heads, withHead, promising, settling, givingBack}
+use Rattle.ledger.specs.Held.{heads, mostAmount, Heads, withHead, promising, settling, givingBack}
 use Rattle.ledger.specs.Answers.{Answer, itsNumber, question, promiseAnswer, endAnswer, promisedAfter, settledAfter, givenBackAfter}
 use Rattle.ledger.specs.declared.LedgerFault.{LedgerFault}
-use Rattle.ledger.specs.declared.LedgerFault.the-variants.{NoSuchHead, BadAmount, AlreadyPromised, NoPlace, NonePromised}
+use Rattle.ledger.specs.declared.LedgerFault.the-variants.{NoSuchHead, AlreadyPromised, NoPlace}
 
 -- a head's index is its number
 pub indexed : (h i : ℕ) → Ok i ≡ question h h → (h < heads) × (i ≡ h)
@@ -26,20 +26,11 @@ module _ (t : Heads) (h : ℕ) (lt : h < heads) where
   in-range : leb heads h ≡ false
   in-range = lt-leb heads h lt
 
-  pub end-none : isSome (t h .promised) ≡ false → endAnswer t h ≡ Err (NonePromised itsNumber)
-  end-none e = cond-false (leb heads h) _ _ in-range ∙ cond-false (isSome (t h .promised)) _ _ e
-
   pub end-some : isSome (t h .promised) ≡ true → endAnswer t h ≡ Ok tt
   end-some e = cond-false (leb heads h) _ _ in-range ∙ cond-true (isSome (t h .promised)) _ _ e
 
-  pub settled-not : isSome (t h .promised) ≡ false → settledAfter t h ≡ t
-  settled-not e = ap (λ (r : Answer). cond (isOk r) (withHead t h (settling (t h))) t) (end-none e)
-
   pub settled-so : isSome (t h .promised) ≡ true → settledAfter t h ≡ withHead t h (settling (t h))
   settled-so e = ap (λ (r : Answer). cond (isOk r) (withHead t h (settling (t h))) t) (end-some e)
-
-  pub given-not : isSome (t h .promised) ≡ false → givenBackAfter t h ≡ t
-  given-not e = ap (λ (r : Answer). cond (isOk r) (withHead t h (givingBack (t h))) t) (end-none e)
 
   pub given-so : isSome (t h .promised) ≡ true → givenBackAfter t h ≡ withHead t h (givingBack (t h))
   given-so e = ap (λ (r : Answer). cond (isOk r) (withHead t h (givingBack (t h))) t) (end-some e)
@@ -51,17 +42,8 @@ module _ (t : Heads) (h : ℕ) (lt : h < heads) where
     past : (d : ℕ) → promiseAnswer t d h a ≡ cond (isSome (t h .promised)) (Err (AlreadyPromised itsNumber)) (cond (eqb (t h .places) 0) (Err (NoPlace itsNumber d)) (Ok tt))
     past d = cond-false (leb heads h) _ _ in-range ∙ cond-false (eqb a 0 || ltb mostAmount a) _ _ amount-fits
 
-    pub promise-some : (d : ℕ) → isSome (t h .promised) ≡ true → promiseAnswer t d h a ≡ Err (AlreadyPromised itsNumber)
-    promise-some d e = past d ∙ cond-true (isSome (t h .promised)) _ _ e
-
-    pub promise-full : (d : ℕ) → isSome (t h .promised) ≡ false → t h .places ≡ 0 → promiseAnswer t d h a ≡ Err (NoPlace itsNumber d)
-    promise-full d e z = past d ∙ cond-false (isSome (t h .promised)) _ _ e ∙ ap (λ n. cond (eqb n 0) (Err (NoPlace itsNumber d)) (Ok tt)) z
-
     pub promise-ok : (d : ℕ) → isSome (t h .promised) ≡ false → (t h .places ≡ 0 → ⊥) → promiseAnswer t d h a ≡ Ok tt
     promise-ok d e z = past d ∙ cond-false (isSome (t h .promised)) _ _ e ∙ cond-false (eqb (t h .places) 0) _ _ (ne-eqb (t h .places) 0 z)
-
-    pub promised-not : (f : LedgerFault) → promiseAnswer t 0 h a ≡ Err f → promisedAfter t h a ≡ t
-    promised-not f e = ap (λ (r : Answer). cond (isOk r) (withHead t h (promising (t h) a)) t) e
 
     pub promised-so : promiseAnswer t 0 h a ≡ Ok tt → promisedAfter t h a ≡ withHead t h (promising (t h) a)
     promised-so e = ap (λ (r : Answer). cond (isOk r) (withHead t h (promising (t h) a)) t) e

@@ -1,16 +1,15 @@
 -- Bytes that pass the check: what they hold, and that they pass it still after a call wrote into them. Assumes nothing.
 use mathlib.Core.Path.{_≡_, refl, sym, ap, subst, fun-ext, _∙_}
-use mathlib.Core.Logic.{_≢_, ⊎-elim}
+use mathlib.Core.Logic.{⊎-elim}
 use mathlib.Core.List.{List}
 use mathlib.Core.Bool.{cond}
-use Prim.Native.Nat.{ℕ, suc, _+_, _-_, _*_, _<_, _≤_}
-use native.Mathlib.Omega.{arith}
+use Prim.Native.Nat.{ℕ, _-_, _<_, _≤_}
 use lib.Dec.{ltb}
 use Rattle.std.proofs.shelf.Tests.{cond-true, cond-false, lt-ltb, le-ltb, cases-eq, cases-lt}
 use Rattle.std.specs.Results.{isOk}
 use Rattle.std.specs.declared.result.Result.{Result}
 use Rattle.std.specs.declared.result.Result.the-variants.{Ok, Err}
-use Rattle.ledger.specs.Held.{heads, Held, nothing}
+use Rattle.ledger.specs.Held.{heads, nothing}
 use Rattle.drawer_image.specs.declared.section.Section.{Section}
 use Rattle.drawer_image.specs.declared.fault.DrawerFault.{DrawerFault}
 use Rattle.drawer_image.specs.Sections.{promiseOf, sectionOf}

@@ -1,16 +1,16 @@
 -- Sections of which no field changed, and places of fields. Assumes nothing.
-use mathlib.Core.Path.{_≡_, refl, sym, ap, ap₂, _∙_}
-use mathlib.Core.Logic.{_≢_, _⊎_, inl, inr}
+use mathlib.Core.Path.{_≡_, refl, ap, ap₂}
+use mathlib.Core.Logic.{_≢_}
 use mathlib.Core.List.{List}
-use mathlib.Core.Bool.{Bool, true, false, cond, _&&_, _||_}
+use mathlib.Core.Bool.{cond, _&&_, _||_}
 use Prim.Native.Nat.{ℕ, zero, suc, _+_, _-_, _*_, _<_, _≤_}
 use native.Mathlib.Nat.{mul-add, mul-le-mul-left}
 use native.Mathlib.Omega.{arith}
 use lib.Dec.{eqb, leb}
 use Rattle.std.specs.Options.{orOther}
 use Rattle.ledger.specs.Held.{mostAmount}
-use Rattle.drawer_image.specs.Fields.{tagAt, lengthAt, amountAt, isPromise, isSettled, isFree}
-use Rattle.drawer_image.specs.Sections.{freeIn, creditedIn, badIn, unless, allowed}
+use Rattle.drawer_image.specs.Fields.{isPromise, isSettled, isFree}
+use Rattle.drawer_image.specs.Sections.{freeIn, creditedIn, badIn, unless}
 use Rattle.drawer.proofs.Puts.{Same}
 
 pub apart : (k g h i j : ℕ) → g ≢ h → i ≤ k → j ≤ k → (k + 1) * g + i ≢ (k + 1) * h + j

@@ -1,27 +1,25 @@
 -- What a drawer holds after a call wrote into it, and that it still passes the check. Assumes nothing.
-use mathlib.Core.Path.{_≡_, refl, sym, ap, ap₂, subst, fun-ext, _∙_}
-use mathlib.Core.Logic.{_≢_, _⊎_, inl, inr, ⊎-elim}
+use mathlib.Core.Path.{_≡_, sym, ap, ap₂, fun-ext, _∙_}
+use mathlib.Core.Logic.{_≢_, _⊎_, ⊎-elim}
 use mathlib.Core.List.{List}
-use mathlib.Core.Bool.{Bool, true, false, cond, _&&_, _||_, not}
-use Prim.Native.Nat.{ℕ, zero, suc, _+_, _-_, _*_, _^_, _<_, _≤_}
+use mathlib.Core.Bool.{true, cond, _&&_, not}
+use Prim.Native.Nat.{ℕ, suc, _+_, _-_, _*_, _<_, _≤_}
 use native.Mathlib.Omega.{arith}
-use native.Mathlib.Nat.{mul-le-mul-left}
-use lib.Dec.{eqb, leb, ltb}
+use lib.Dec.{eqb, ltb}
 use lib.ListN.{length}
-use Rattle.std.proofs.shelf.Tests.{cond-true, cond-false, and-parts, and-from, or-cases, or-left, or-right, le-leb, lt-ltb, eq-eqb, ne-eqb, leb-true, ltb-true, eqb-true, cases-eq, cases-lt}
-use Rattle.std.specs.Options.{orOther, isSome}
-use Rattle.std.specs.declared.option.Option.{Option}
-use Rattle.std.specs.declared.option.Option.the-variants.{Some, None}
-use Rattle.ledger.specs.Held.{heads, mostAmount, Held, Heads, withHead, promising, settling, givingBack}
+use Rattle.std.proofs.shelf.Tests.{cond-true, cond-false, or-left, or-right, lt-ltb, eq-eqb, ne-eqb, cases-eq, cases-lt}
+use Rattle.std.specs.Options.{isSome}
+use Rattle.std.specs.declared.option.Option.the-variants.{None}
+use Rattle.ledger.specs.Held.{heads, mostAmount, withHead}
 use Rattle.drawer_image.specs.declared.section.Section.{Section}
 use Rattle.drawer_image.specs.Fields.{amountAt}
 use Rattle.drawer.specs.Writes.{putAmount, putSettled, nextFree, settlingBytes}
 use Rattle.drawer_image.specs.Sections.{freeIn, creditedIn, badIn, covered, sectionOf, promiseOf}
-use Rattle.drawer_image.specs.Checks.{countFits, sized, sound, sectionAt, emptySection}
+use Rattle.drawer_image.specs.Checks.{countFits, sound, sectionAt, emptySection}
 use Rattle.drawer.specs.Meaning.{heldIn, bytesHeld}
-use Rattle.drawer_image.proofs.Lawful.{promise-good, each}
+use Rattle.drawer_image.proofs.Lawful.{each}
 use Rattle.drawer_image.proofs.Earliest.{room}
-use Rattle.drawer.proofs.Puts.{Same, same-then, put-other, length-put, settled-other, length-settled}
+use Rattle.drawer.proofs.Puts.{Same, put-other, length-put, settled-other, length-settled}
 use Rattle.drawer.proofs.Frames.{apart, same-promise, free-frame, sum-frame, bad-frame}
 use Rattle.drawer_image.proofs.Sounds.{Sized, Sound, Usable, section-sound}
 use Rattle.drawer.proofs.Moves.{says, located, after-settling, promise-good-still, promise-says}

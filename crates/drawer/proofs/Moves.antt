@@ -2,29 +2,26 @@
 use mathlib.Core.Path.{_≡_, refl, sym, ap, ap₂, subst, _∙_}
 use mathlib.Core.Logic.{_≢_, _⊎_, inl, inr, ⊎-elim}
 use mathlib.Core.List.{List}
-use mathlib.Core.Bool.{Bool, true, false, cond, _&&_, _||_, not}
+use mathlib.Core.Bool.{Bool, true, false, _&&_, _||_}
 use Prim.Native.Nat.{ℕ, zero, suc, _+_, _-_, _*_, _^_, _<_, _≤_}
-use native.Mathlib.Nat.{add-zero}
 use native.Mathlib.Numerals.{add-one}
 use native.Mathlib.Omega.{arith}
-use lib.Dec.{eqb, leb, ltb}
+use lib.Dec.{eqb, leb}
 use lib.ListN.{length}
-use Rattle.std.proofs.shelf.Tests.{and-parts, and-from, or-cases, or-left, or-right, le-leb, lt-ltb, eq-eqb, leb-true, eqb-true, both-ways, cases-eq, cases-lt}
-use Rattle.std.specs.Options.{orOther, isSome}
+use Rattle.std.proofs.shelf.Tests.{and-parts, and-from, le-leb, eqb-true, cases-lt}
+use Rattle.std.specs.Options.{orOther}
 use Rattle.std.specs.declared.option.Option.{Option}
 use Rattle.std.specs.declared.option.Option.the-variants.{Some, None}
 use Rattle.ledger.specs.Held.{mostAmount}
 use Rattle.drawer_image.specs.declared.section.Section.{Section}
 use Rattle.drawer_image.specs.Fields.{tagAt, lengthAt, amountAt, headed, isPromise, isSettled, isFree}
-use Rattle.drawer.specs.Writes.{putAmount, putSettled, nextFree, settlingBytes}
-use Rattle.drawer_image.specs.Sections.{freeIn, creditedIn, badIn, unless, allowed, covered, sectionOf, promiseOf}
-use Rattle.drawer_image.specs.Checks.{sized, sound, sectionAt, emptySection}
-use Rattle.drawer_image.proofs.Lawful.{promise-good, each}
-use Rattle.drawer_image.proofs.Walks.{bad-more, free-more, free-none, after-free, after-settled}
+use Rattle.drawer.specs.Writes.{putAmount, putSettled}
+use Rattle.drawer_image.specs.Sections.{freeIn, creditedIn, badIn, unless, sectionOf}
+use Rattle.drawer_image.proofs.Lawful.{promise-good}
+use Rattle.drawer_image.proofs.Walks.{bad-more, free-none, after-free, after-settled}
 use Rattle.drawer_image.proofs.Earliest.{room}
-use Rattle.drawer.proofs.Puts.{Same, same-then, tag-kept, length-kept, amount-same, put-other, length-put, settled-other, length-settled, settled-tag, settled-length, settled-amount}
-use Rattle.drawer.proofs.Frames.{apart, same-free, same-settled, same-promise, free-frame, sum-frame, bad-frame}
-use Rattle.drawer_image.proofs.Sounds.{Sized, Sound, Usable}
+use Rattle.drawer.proofs.Puts.{Same, tag-kept, length-kept, amount-same, put-other, settled-other, settled-tag, settled-length, settled-amount}
+use Rattle.drawer.proofs.Frames.{same-free, same-promise, free-frame, sum-frame, bad-frame}
 
 abbrev pub says : ℕ → ℕ → ℕ → Section
 says p c f = record { promised = p; credited = c; free = f }

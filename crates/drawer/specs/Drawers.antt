@@ -15,7 +15,7 @@ use lib.Dec.{eqb}
 use denote.Ref.{now, name}
 use Rattle.std.proofs.shelf.Tests.{eqb-false}
 use Rattle.std.specs.declared.option.Option.the-variants.{Some, None}
-use Rattle.ledger.specs.Held.{heads, Held, Heads, nothing, Within, Amount}
+use Rattle.ledger.specs.Held.{heads, Heads, nothing, Within, Amount}
 use Rattle.drawer_image.specs.declared.section.Section.{Section}
 use Rattle.drawer_image.specs.Checks.{Passes, sectionAt}
 use Rattle.drawer_image.proofs.Sounds.{headless-none}

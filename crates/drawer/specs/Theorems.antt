@@ -7,7 +7,7 @@
 use mathlib.Core.Path.{_≡_}
 use mathlib.Core.Bool.{true, false}
 use mathlib.Core.List.{List}
-use Prim.Native.Nat.{ℕ, suc, _+_, _<_, _≤_}
+use Prim.Native.Nat.{ℕ, suc, _+_, _<_}
 use Rattle.ledger.specs.Held.{heads}
 use Rattle.drawer_image.specs.Fields.{amountAt, isFree}
 use Rattle.drawer_image.specs.Sections.{promiseOf}

@@ -1,11 +1,10 @@
 -- What the bytes of a drawer are documented to hold after calls on it. Assumes nothing.
 use mathlib.Core.Path.{_≡_, sym, ap, _∙_}
 use mathlib.Core.List.{List}
-use mathlib.Core.Bool.{true, cond}
+use mathlib.Core.Bool.{cond}
 use Prim.Native.Nat.{ℕ}
 use Rattle.std.proofs.shelf.Tests.{cond-true}
 use Rattle.std.specs.Results.{isOk}
-use Rattle.std.specs.declared.result.Result.the-variants.{Ok}
 use Rattle.ledger.specs.Held.{Heads, nothing}
 use Rattle.ledger_calls.specs.Calls.{afterAll}
 use Rattle.ledger_calls.specs.declared.HeadCall.{HeadCall}

@@ -1,23 +1,21 @@
 -- Fresh bytes pass the check, and hold nothing. Assumes nothing.
-use mathlib.Core.Path.{_≡_, refl, sym, ap, ap₂, subst, _∙_}
-use mathlib.Core.List.{List, [], _∷_, _++_}
-use mathlib.Core.Bool.{Bool, true, false, cond, _&&_}
+use mathlib.Core.Path.{_≡_, refl, sym, ap, ap₂, _∙_}
+use mathlib.Core.List.{List}
+use mathlib.Core.Bool.{true, _&&_}
 use Prim.Native.Nat.{ℕ, zero, suc, _+_, _-_, _*_, _<_, _≤_}
-use native.Mathlib.Nat.{mul-add, mul-assoc}
+use native.Mathlib.Nat.{mul-assoc}
 use native.Mathlib.Omega.{arith}
 use lib.Dec.{eqb, leb, ltb}
-use lib.ListN.{length, getD}
+use lib.ListN.{getD}
 use Rattle.std.proofs.shelf.Lists.{getD-append-left, getD-append-right}
 use Rattle.std.proofs.shelf.Tests.{cond-true, lt-ltb}
-use Rattle.std.specs.declared.option.Option.the-variants.{Some, None}
-use Rattle.ledger.specs.Held.{heads, mostAmount, mostPlaces, Held, nothing}
-use Rattle.drawer_image.specs.Fields.{tagAt, lengthAt, amountAt, isPromise, isSettled, isFree}
+use Rattle.std.specs.declared.option.Option.the-variants.{None}
+use Rattle.ledger.specs.Held.{heads, mostAmount, mostPlaces, nothing}
+use Rattle.drawer_image.specs.Fields.{tagAt, lengthAt, amountAt, isPromise, isFree}
 use Rattle.drawer_image.specs.Sections.{promiseOf, freeIn, creditedIn, badIn, unless, sectionOf, covered}
-use Rattle.drawer_image.specs.Checks.{Passes}
 use Rattle.drawer_image.proofs.Walks.{free-none, sum-none, bad-none, after-free}
-use Rattle.drawer_image.proofs.Sounds.{Sized, Sound}
-use Rattle.drawer_image.proofs.Passed.{Sounds, sounds-passes}
-use Rattle.drawer.specs.Meaning.{heldIn, documented}
+use Rattle.drawer_image.proofs.Passed.{sounds-passes}
+use Rattle.drawer.specs.Meaning.{heldIn}
 use Rattle.drawer_fresh.specs.Fresh.{emptyField, repeated, freshSection, freshBytes, HoldsFresh}
 use Rattle.drawer_fresh.proofs.Lists.{length-repeated, getD-repeated, length-section}
 

@@ -1,8 +1,9 @@
 -- The earliest of what a function tells, and the places of a drawer's fields. Assumes nothing.
-use mathlib.Core.Path.{_≡_, refl, sym, ap, ap₂, subst, _∙_}
+use mathlib.Core.Path.{_≡_, refl, sym, ap, ap₂, _∙_}
 use mathlib.Core.Logic.{⊎-elim}
+use mathlib.Core.Bool.{Bool, true, false}
 use Prim.Native.Nat.{ℕ, zero, suc, _+_, _-_, _*_, _<_, _≤_}
-use native.Mathlib.Nat.{mul-add, mul-le-mul-left}
+use native.Mathlib.Nat.{mul-le-mul-left}
 use native.Mathlib.Numerals.{add-one}
 use native.Mathlib.Omega.{arith}
 use Rattle.std.specs.declared.option.Option.{Option}
@@ -10,6 +11,7 @@ use Rattle.std.specs.declared.option.Option.the-variants.{Some, None}
 use Rattle.std.specs.Options.{orOther}
 use Rattle.std.proofs.shelf.Tests.{cases-eq}
 use Rattle.ledger.specs.Held.{heads}
+use Rattle.drawer_image.specs.Sections.{unless}
 use Rattle.drawer_image.specs.Checks.{earliest}
 
 pub room : (k h n : ℕ) → h < heads → n ≡ 98 * (k + 1) → 7 * ((k + 1) * h + k) + 7 ≤ n
@@ -41,16 +43,21 @@ earliest-added f n o p e h = ap₂ orOther e (sym h) ∙ sym (earliest-more f n)
 pub earliest-kept : (f : ℕ → Option ℕ) (n : ℕ) (o : Option ℕ) → o ≡ earliest f n → f n ≡ None → o ≡ earliest f (n + 1)
 earliest-kept f n o e h = sym (or-none o) ∙ earliest-added f n o None e h
 
+-- all is well with a field
+pub unless-none : (x : Bool) (j : ℕ) → unless x j ≡ None → x ≡ true
+unless-none true j e = refl
+unless-none false j e = absurd (let z : _≡_ {A = ℕ} 0 1 = cc in omega arith)
+
 -- none at all
-or-parts : (o q : Option ℕ) → orOther o q ≡ None → (o ≡ None) × (q ≡ None)
-or-parts None q e = (refl, e)
-or-parts (Some x) q e = absurd (let z : _≡_ {A = ℕ} 0 1 = cc in omega arith)
+pub option-parts : (o q : Option ℕ) → orOther o q ≡ None → (o ≡ None) × (q ≡ None)
+option-parts None q e = (refl, e)
+option-parts (Some x) q e = absurd (let z : _≡_ {A = ℕ} 0 1 = cc in omega arith)
 
 pub earliest-each : (f : ℕ → Option ℕ) (n : ℕ) → earliest f n ≡ None → (i : ℕ) → i < n → f i ≡ None
 unfolding earliest
 earliest-each f zero e i lt = absurd (omega arith)
 earliest-each f (suc n) e i lt =
-    let p = or-parts (earliest f n) (f n) e in
+    let p = option-parts (earliest f n) (f n) e in
     ⊎-elim (λ (same : i ≡ n). ap f same ∙ p .1) (λ ne. earliest-each f n (p .0) i (omega (arith, ne))) (cases-eq i n)
 
 pub earliest-all : (f : ℕ → Option ℕ) (n : ℕ) → ((i : ℕ) → i < n → f i ≡ None) → earliest f n ≡ None

@@ -2,7 +2,7 @@
 use mathlib.Core.Path.{_≡_, refl, sym, ap, ap₂, subst, _∙_}
 use mathlib.Core.Logic.{_⊎_, inl, inr, ⊎-elim}
 use mathlib.Core.List.{List}
-use mathlib.Core.Bool.{Bool, true, false, cond, _&&_, _||_}
+use mathlib.Core.Bool.{Bool, true, false, cond, _&&_}
 use Prim.Native.Nat.{ℕ, zero, suc, _+_, _*_, _<_, _≤_}
 use native.Mathlib.Nat.{mul-add, mul-le-mul-left}
 use native.Mathlib.Omega.{arith}
@@ -14,14 +14,13 @@ use Rattle.std.proofs.shelf.Tests.{and-parts, and-from, or-cases, or-parts, or-
 use Rattle.std.specs.Options.{orOther}
 use Rattle.std.specs.declared.option.Option.{Option}
 use Rattle.std.specs.declared.option.Option.the-variants.{Some, None}
-use Rattle.std.specs.declared.result.Result.the-variants.{Ok, Err}
-use Rattle.drawer_image.specs.declared.section.Section.{Section}
-use Rattle.drawer_image.specs.declared.fault.DrawerFault.the-variants.{BadCount, BadLength, BadField}
+use Rattle.std.specs.declared.result.Result.the-variants.{Err}
+use Rattle.drawer_image.specs.declared.fault.DrawerFault.the-variants.{BadCount, BadLength}
 use Rattle.drawer_image.specs.Fields.{amountAt, isPromise, isSettled, isFree}
 use Rattle.drawer_image.specs.Sections.{promiseOf, freeIn, badIn, allowed, unless, covered, sectionOf}
 use Rattle.drawer_image.specs.Checks.{countFits, earliest, badOf, uncoveredOf, refusedAt, checked}
-use Rattle.drawer_image.specs.Judged.{Allowed, AllAllowed, Uncovered, EarliestBad, EarliestUncovered, Counted, Long, Passing, Judged}
-use Rattle.drawer_image.proofs.Earliest.{earliest-each, First, earliest-first}
+use Rattle.drawer_image.specs.Judged.{Allowed, AllAllowed, Uncovered, EarliestBad, EarliestUncovered, Counted, Long, Judged}
+use Rattle.drawer_image.proofs.Earliest.{unless-none, option-parts, earliest-each, earliest-first}
 
 -- no free field among n
 pub free-zero : (bs : List ℕ) (b n : ℕ) → freeIn bs b n ≡ 0 → (i : ℕ) → i < n → isFree bs (b + suc i) ≡ false
@@ -57,10 +56,6 @@ allowed-by bs b n a =
     (and-from (eqb (freeIn bs b n) 0) (isSettled bs (b + suc n)) (eq-eqb (freeIn bs b n) 0 (zero-free bs b n (s .1))) (s .0)))
     a
 
-well : (x : Bool) (j : ℕ) → unless x j ≡ None → x ≡ true
-well true j e = refl
-well false j e = absurd (let z : _≡_ {A = ℕ} 0 1 = cc in omega arith)
-
 ill : (x : Bool) (j place : ℕ) → unless x j ≡ Some place → (x ≡ false) × (place ≡ 7 * j)
 ill true j place e = absurd (let z : _≡_ {A = ℕ} 0 1 = cc in omega arith)
 ill false j place e = (refl, cc)
@@ -68,16 +63,12 @@ ill false j place e = (refl, cc)
 -- a section without a bad field
 pub good-each : (bs : List ℕ) (b n : ℕ) → badIn bs b n ≡ None → (i : ℕ) → i ≤ n → Allowed bs b i
 unfolding badIn
-good-each bs b zero e zero le = well (isPromise bs b) b e
+good-each bs b zero e zero le = unless-none (isPromise bs b) b e
 good-each bs b zero e (suc i) le = absurd (omega arith)
 good-each bs b (suc n) e i le =
-    let p = parts (badIn bs b n) (unless (allowed bs b n) (b + suc n)) e in
-    ⊎-elim (λ (same : i ≡ suc n). subst (Allowed bs b) (sym same) (is-allowed bs b n (well (allowed bs b n) (b + suc n) (p .1))))
+    let p = option-parts (badIn bs b n) (unless (allowed bs b n) (b + suc n)) e in
+    ⊎-elim (λ (same : i ≡ suc n). subst (Allowed bs b) (sym same) (is-allowed bs b n (unless-none (allowed bs b n) (b + suc n) (p .1))))
     (λ ne. good-each bs b n (p .0) i (omega (arith, ne))) (cases-eq i (suc n))
-  where
-    parts : (o q : Option ℕ) → orOther o q ≡ None → (o ≡ None) × (q ≡ None)
-    parts None q e = (refl, e)
-    parts (Some x) q e = absurd (let z : _≡_ {A = ℕ} 0 1 = cc in omega arith)
 
 -- the earliest bad field of a section
 record Found (bs : List ℕ) (b n place : ℕ) : Type 0 where
@@ -142,7 +133,7 @@ uncovered-by bs k h u =
     (ne-eqb (amountAt bs (promiseOf k h)) 0 (λ e. omega (arith, u .0))) (le-ltb 0 (freeIn bs (promiseOf k h) k) (omega arith))
 
 is-covered : (bs : List ℕ) (k h : ℕ) → uncoveredOf bs k h ≡ None → Uncovered bs k h → ⊥
-is-covered bs k h e u = both-ways (covered (sectionOf bs (promiseOf k h) k)) (uncovered-by bs k h u) (well (covered (sectionOf bs (promiseOf k h) k)) (promiseOf k h) e)
+is-covered bs k h e u = both-ways (covered (sectionOf bs (promiseOf k h) k)) (uncovered-by bs k h u) (unless-none (covered (sectionOf bs (promiseOf k h) k)) (promiseOf k h) e)
 
 earliest-uncovered : (bs : List ℕ) (k place : ℕ) → earliest (uncoveredOf bs k) heads ≡ Some place → EarliestUncovered bs k place
 earliest-uncovered bs k place e =

@@ -7,15 +7,14 @@ use Prim.Native.Nat.{ℕ, zero, suc, _+_, _*_, _<_, _≤_}
 use native.Mathlib.Omega.{arith}
 use lib.Dec.{eqb, leb, ltb}
 use Rattle.std.proofs.shelf.Tests.{cond-both, and-parts, leb-true, eqb-true, ltb-true, or-cases, both-ways}
-use Rattle.std.specs.Options.{orOther}
-use Rattle.std.specs.declared.option.Option.{Option}
-use Rattle.std.specs.declared.option.Option.the-variants.{Some, None}
+use Rattle.std.specs.declared.option.Option.the-variants.{None}
 use Rattle.ledger.specs.Held.{heads, mostAmount, mostPlaces, mostTotal}
 use Rattle.drawer_image.specs.declared.section.Section.{Section}
 use Rattle.drawer_image.specs.Fields.{amountAt, headed, isPromise, isSettled, isFree}
-use Rattle.drawer_image.specs.Sections.{promiseOf, freeIn, creditedIn, badIn, allowed, unless, covered, sectionOf}
+use Rattle.drawer_image.specs.Sections.{promiseOf, freeIn, creditedIn, badIn, sectionOf}
 use Rattle.drawer_image.specs.Checks.{sized, sound, sectionAt, emptySection}
 use Rattle.drawer_image.proofs.Walks.{settled-most, free-unsettled}
+use Rattle.drawer_image.proofs.Judges.{good-each}
 use Rattle.drawer_image.proofs.Sounds.{Sound, is-sized, is-sound}
 
 -- each field is free, or holds at most the largest amount
@@ -33,17 +32,7 @@ each bs b (suc n) = step (each bs b n) (isFree bs (b + suc n)) (isSettled bs (b 
 
 -- without a bad field the promise is one
 pub promise-good : (bs : List ℕ) (b n : ℕ) → badIn bs b n ≡ None → isPromise bs b ≡ true
-unfolding badIn
-promise-good bs b zero e = go (isPromise bs b) e
-  where
-    go : (x : Bool) → unless x b ≡ None → x ≡ true
-    go true e = refl
-    go false e = absurd (let z : _≡_ {A = ℕ} 0 1 = cc in omega arith)
-promise-good bs b (suc n) e = promise-good bs b n (go (badIn bs b n) e)
-  where
-    go : (o : Option ℕ) → orOther o (unless (allowed bs b n) (b + suc n)) ≡ None → o ≡ None
-    go None e = refl
-    go (Some x) e = e
+promise-good bs b n e = good-each bs b n e 0 (omega arith)
 
 pub record Lawful (s : Section) : Type 0 where
   pub few : s .credited + mostAmount * s .free ≤ mostTotal

@@ -16,16 +16,12 @@ use Rattle.ledger.specs.Answers.{itsNumber}
 use Rattle.drawer_image.specs.declared.fault.DrawerFault.the-variants.{BadCount, BadLength}
 use Rattle.drawer_image.specs.Sections.{promiseOf, unless, covered, sectionOf}
 use Rattle.drawer_image.specs.Checks.{countFits, earliest, badOf, uncoveredOf, refusedAt, Passes}
-use Rattle.drawer_image.proofs.Earliest.{earliest-each, earliest-all}
+use Rattle.drawer_image.proofs.Earliest.{unless-none, earliest-each, earliest-all}
 use Rattle.drawer_image.proofs.Sounds.{Sized, Sound, is-sized, sized-by}
 
 pub record Sounds (bs : List ℕ) (k : ℕ) : Type 0 where
   pub size : Sized bs k
   pub each : (h : ℕ) → h < heads → Sound bs k (promiseOf k h)
-
-backed-by : (x : Bool) (j : ℕ) → unless x j ≡ None → x ≡ true
-backed-by true j e = refl
-backed-by false j e = absurd (let z : _≡_ {A = ℕ} 0 1 = cc in omega arith)
 
 pub passes-sounds : (bs : List ℕ) (k : ℕ) → Passes bs k → Sounds bs k
 passes-sounds bs k e =
@@ -34,7 +30,7 @@ passes-sounds bs k e =
       size = is-sized bs k (and-from (countFits k) (eqb (length bs) (98 * (k + 1))) (p .0) (p .1));
       each = λ h le. record {
         good = earliest-each (badOf bs k) heads (p .2) h (omega arith);
-        backs = backed-by (covered (sectionOf bs (promiseOf k h) k)) (promiseOf k h) (earliest-each (uncoveredOf bs k) heads (p .3) h (omega arith));
+        backs = unless-none (covered (sectionOf bs (promiseOf k h) k)) (promiseOf k h) (earliest-each (uncoveredOf bs k) heads (p .3) h (omega arith));
       };
     }
   where

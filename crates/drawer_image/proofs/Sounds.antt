@@ -1,13 +1,13 @@
 -- Sections that hold something. Assumes emptySection.
-use mathlib.Core.Path.{_≡_, refl, sym, ap, ap₂, subst, _∙_}
-use mathlib.Core.Logic.{_≢_, _⊎_, inl, inr, ⊎-elim}
+use mathlib.Core.Path.{_≡_, refl, sym, ap, ap₂, _∙_}
+use mathlib.Core.Logic.{_⊎_, ⊎-elim}
 use mathlib.Core.List.{List}
-use mathlib.Core.Bool.{Bool, true, false, cond, _&&_, _||_, not}
-use Prim.Native.Nat.{ℕ, zero, suc, _+_, _-_, _*_, _<_, _≤_}
+use mathlib.Core.Bool.{Bool, true, false, cond, _&&_, not}
+use Prim.Native.Nat.{ℕ, _+_, _-_, _*_, _<_, _≤_}
 use native.Mathlib.Omega.{arith}
 use lib.Dec.{eqb, leb, ltb}
 use lib.ListN.{length}
-use Rattle.std.proofs.shelf.Tests.{cond-both, cond-true, cond-false, and-parts, and-from, and-left, and-right, le-leb, le-ltb, lt-ltb, eq-eqb, leb-true, ltb-true, eqb-true, both-ways, not-true, not-false, cases-bool}
+use Rattle.std.proofs.shelf.Tests.{cond-true, cond-false, and-parts, and-from, and-left, and-right, le-leb, le-ltb, lt-ltb, eq-eqb, leb-true, ltb-true, eqb-true, both-ways, not-true, not-false, cases-bool}
 use Rattle.std.specs.Options.{isSome}
 use Rattle.std.specs.declared.option.Option.{Option}
 use Rattle.std.specs.declared.option.Option.the-variants.{Some, None}
@@ -17,8 +17,7 @@ use Rattle.ledger.specs.Held.{heads, mostPlaces}
 use Rattle.ledger.specs.Answers.{itsNumber}
 use Rattle.drawer_image.specs.declared.fault.DrawerFault.the-variants.{BadCount, BadLength}
 use Rattle.drawer_image.specs.declared.section.Section.{Section}
-use Rattle.drawer_image.specs.Fields.{amountAt}
-use Rattle.drawer_image.specs.Sections.{promiseOf, freeIn, badIn, covered, sectionOf}
+use Rattle.drawer_image.specs.Sections.{promiseOf, badIn, covered, sectionOf}
 use Rattle.drawer_image.specs.Checks.{countFits, Answer, sized, sizeAnswer, sound, sectionAt, emptySection}
 
 pub record Sized (bs : List ℕ) (k : ℕ) : Type 0 where

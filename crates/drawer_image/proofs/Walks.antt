@@ -1,23 +1,21 @@
 -- One bill more of a section, and what is known of it. Assumes nothing.
-use mathlib.Core.Path.{_≡_, refl, sym, ap, ap₂, subst, _∙_}
+use mathlib.Core.Path.{_≡_, refl, sym, ap, ap₂, _∙_}
 use mathlib.Core.List.{List}
-use mathlib.Core.Bool.{Bool, true, false, cond, _&&_, _||_}
-use mathlib.Core.Logic.{_⊎_, inl, inr, ⊎-elim}
-use Prim.Native.Nat.{ℕ, zero, suc, _+_, _-_, _*_, _<_, _≤_}
+use mathlib.Core.Bool.{true, false, cond, _&&_, _||_}
+use Prim.Native.Nat.{ℕ, zero, suc, _+_, _-_, _*_, _≤_}
 use native.Mathlib.Numerals.{add-one}
 use native.Mathlib.Omega.{arith}
-use lib.Dec.{eqb, leb, ltb}
-use Rattle.std.proofs.shelf.Tests.{and-parts, leb-true, eqb-true, cases-bool, cond-true, cond-false, or-left, or-right, or-from, and-left, and-right}
+use lib.Dec.{eqb}
+use Rattle.std.proofs.shelf.Tests.{or-right, or-from}
 use Rattle.std.proofs.shelf.Ways.{tells}
 use Rattle.std.specs.Options.{orOther}
 use Rattle.std.specs.declared.option.Option.{Option}
 use Rattle.std.specs.declared.option.Option.the-variants.{Some, None}
 use Rattle.ledger.specs.Held.{mostAmount}
-use Rattle.drawer_image.specs.Fields.{tagAt, lengthAt, amountAt, headed, isPromise, isSettled, isFree}
-use Rattle.std.specs.declared.result.Result.{Result}
+use Rattle.drawer_image.specs.Fields.{amountAt, isPromise, isSettled, isFree}
 use Rattle.std.specs.declared.result.Result.the-variants.{Ok, Err}
 use Rattle.drawer_image.specs.declared.section.Section.{Section}
-use Rattle.drawer_image.specs.Sections.{freeIn, creditedIn, badIn, unless, allowed, readOf, sectionOf}
+use Rattle.drawer_image.specs.Sections.{freeIn, creditedIn, badIn, unless, allowed, readOf}
 
 next : (b i : ℕ) → b + suc i ≡ b + i + 1
 next b i = omega arith
@@ -60,10 +58,6 @@ bad-stays bs b n (suc d) j e =
 pub settled-most : (bs : List ℕ) (j : ℕ) → isSettled bs j ≡ true → amountAt bs j ≤ mostAmount
 unfolding isSettled
 settled-most bs j e = grind (arith, tells)
-
-pub settled-least : (bs : List ℕ) (j : ℕ) → isSettled bs j ≡ true → 0 < amountAt bs j
-unfolding isSettled
-settled-least bs j e = grind (arith, tells)
 
 pub free-unsettled : (bs : List ℕ) (j : ℕ) → isFree bs j ≡ true → isSettled bs j ≡ false
 unfolding isSettled isFree

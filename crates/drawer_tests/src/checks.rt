@@ -84,7 +84,10 @@ fn count_and_length_come_first(rt: LibcRuntime) -> Result<(), Fail> {
         (392_098, 4001, BAD_COUNT),
     ];
     for (length, bills, answer) in sizes {
-        check_eq(check(bytes.as_slice().get(0..length).unwrap_or(&[]), bills), answer)?;
+        check_eq(
+            check(bytes.as_slice().get(0..length).unwrap_or(&[]), bills),
+            answer,
+        )?;
     }
     Ok(())
 }

@@ -1,10 +1,9 @@
-use borrow.Author.Needs.{needs}
 use mathlib.Core.Path.{_≡_, refl, sym, ap, subst, _∙_}
-use mathlib.Core.List.{List, _++_}
-use Prim.Native.Nat.{ℕ, _+_, _*_, _≤_}
-use native.Mathlib.Nat.{mul-add, mul-assoc}
+use mathlib.Core.List.{_++_}
+use Prim.Native.Nat.{_+_, _*_}
+use native.Mathlib.Nat.{mul-add}
 use native.Mathlib.Omega.{arith}
-use lib.ListN.{length, take}
+use lib.ListN.{take}
 use Rattle.std.proofs.shelf.Lists.{take-all}
 use Rattle.std.specs.declared.result.Result.the-variants.{Ok}
 use Rattle.drawer_image.proofs.Earliest.{room}

@@ -1,16 +1,15 @@
-use mathlib.Core.Path.{_≡_, sym, ap, subst, _∙_}
-use mathlib.Core.List.{List}
+use mathlib.Core.Path.{_≡_, ap, subst, _∙_}
 use mathlib.Core.Logic.{⊎-elim}
-use Prim.Native.Nat.{ℕ, _+_, _-_, _*_, _<_, _≤_}
+use Prim.Native.Nat.{ℕ, _-_, _≤_}
 use native.Mathlib.Omega.{arith}
-use lib.ListN.{length, getD, take}
+use lib.ListN.{length, getD}
 use Rattle.std.proofs.shelf.Digits.{value-more, digits-more}
 use Rattle.std.proofs.shelf.Lists.{take-all}
 use Rattle.std.proofs.shelf.Numerals.{digit-at}
 use Rattle.std.proofs.shelf.Ways.{tells}
 use Rattle.std.specs.Reads.{Digits, value}
 use Rattle.std.specs.Text.{digitValue}
-use Rattle.audit_report.specs.Counts.{Decimal, capped}
+use Rattle.audit_report.specs.Counts.{capped}
 use Rattle.audit_report.proofs.count.read_count.Needs as need
 use Rattle.audit_report.proofs.count.read_count.Needs.{then-digit-lt48·by·then-digit-lt48, then-digit-lt48·by·else-digit-lt48·then-digit-gt57}
 

@@ -1,4 +1,4 @@
-use mathlib.Core.Path.{_≡_, sym, _∙_}
+use mathlib.Core.Path.{sym, _∙_}
 use Rattle.std.proofs.shelf.Results.{made-weaker}
 use Rattle.audit_report.proofs.Lines.{report-passed}
 use Rattle.audit_report.proofs.report.report.Needs as need

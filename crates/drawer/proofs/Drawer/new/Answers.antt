@@ -1,4 +1,4 @@
-use mathlib.Core.Path.{_≡_, refl, sym, ap, _∙_}
+use mathlib.Core.Path.{_≡_, refl, ap, _∙_}
 use mathlib.Core.Bool.{cond}
 use Rattle.std.specs.Results.{isOk}
 use Rattle.drawer.specs.Meaning.{bytesHeld}

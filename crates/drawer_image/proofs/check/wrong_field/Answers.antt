@@ -1,10 +1,9 @@
-use borrow.Author.Needs.{needs}
 use mathlib.Core.Path.{_≡_, sym, ap, ap₂, _∙_}
-use Prim.Native.Nat.{ℕ, _+_, _*_}
+use Prim.Native.Nat.{_+_, _*_}
 use mathlib.Core.Bool.{Bool, true, false}
 use native.Mathlib.Omega.{arith}
 use Rattle.std.specs.Options.{orOther}
-use Rattle.std.specs.declared.option.Option.the-variants.{Some, None}
+use Rattle.std.specs.declared.option.Option.the-variants.{Some}
 use Rattle.ledger.specs.Held.{heads}
 use Rattle.drawer_image.specs.Sections.{covered, unless, sectionOf}
 use Rattle.drawer_image.specs.Checks.{earliest, badOf, uncoveredOf}

@@ -1,5 +1,4 @@
-use mathlib.Core.Path.{_≡_, sym, ap, _∙_}
-use Prim.Native.Nat.{ℕ, _+_, _*_}
+use mathlib.Core.Path.{sym, ap, _∙_}
 use Rattle.drawer_image.specs.Sections.{promiseOf, badIn, covered, sectionOf}
 use Rattle.drawer_image.proofs.Walks.{read-ok, read-err}
 use Rattle.drawer_image.proofs.Earliest.{room}
