@@ -9,7 +9,13 @@ use std::fs;
 use std::io;
 
 fn main(rt: LibcRuntime) -> io::Result<()> {
-    let mut words = env::args(&rt)?;
+    let mut words = match env::args(&rt) {
+        Ok(words) => words,
+        Err(error) => {
+            eprintln!(rt, "audit: cannot read the arguments: {error}")?;
+            return Err(error);
+        }
+    };
     let _program = words.next();
     match (words.next(), words.next(), words.next()) {
         (Some(count), Some(file), None) => audit(&rt, count.as_str(), file.as_str()),

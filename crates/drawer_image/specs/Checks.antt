@@ -38,7 +38,12 @@ abbrev pub countAnswer : ℕ → Answer
 countAnswer k = cond (countFits k) (Ok tt) (Err (BadCount itsNumber))
 
 abbrev pub sizeAnswer : ℕ → ℕ → Answer
-sizeAnswer n k = cond (countFits k) (cond (eqb n (98 * (k + 1))) (Ok tt) (Err (BadLength itsNumber))) (Err (BadCount itsNumber))
+sizeAnswer n k =
+    cond (countFits k)
+    (cond (eqb n (98 * (k + 1)))
+    (Ok tt)
+    (Err (BadLength itsNumber)))
+    (Err (BadCount itsNumber))
 
 -- k and the length of the bytes are accepted
 abbrev pub sized : List ℕ → ℕ → Bool
@@ -64,7 +69,11 @@ refusedAt (Some place) = Err (BadField itsNumber place)
 
 abbrev pub checked : List ℕ → ℕ → Answer
 checked bs k =
-    cond (countFits k) (cond (eqb (length bs) (98 * (k + 1))) (refusedAt (wrongField bs k)) (Err (BadLength itsNumber))) (Err (BadCount itsNumber))
+    cond (countFits k)
+    (cond (eqb (length bs) (98 * (k + 1)))
+    (refusedAt (wrongField bs k))
+    (Err (BadLength itsNumber)))
+    (Err (BadCount itsNumber))
 
 abbrev pub Passes : List ℕ → ℕ → Type 0
 Passes bs k = checked bs k ≡ Ok tt
