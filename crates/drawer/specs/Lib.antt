@@ -1,0 +1,4 @@
+pub mod Meaning
+pub mod Writes
+pub mod Drawers
+pub mod Theorems
