@@ -1,0 +1,135 @@
+-- Every call keeps an order within the slacks in being. Assumes nothing.
+use mathlib.Core.Path.{_≡_, refl, sym, ap, subst, _∙_}
+use mathlib.Core.Bool.{Bool, true, false, cond}
+use mathlib.Core.Logic.{⊎-elim, ∥∥₁-elim}
+use mathlib.Core.List.{map}
+use Prim.Native.Nat.{ℕ, zero, suc, _+_, _≤_, _<_}
+use native.Mathlib.Omega.{arith}
+use native.Mathlib.Bridge.{le-prop}
+use lib.Dec.{leb}
+use lib.ListN.{length, set, replicate}
+use Rattle.std.specs.Options.{isSome}
+use Rattle.std.specs.declared.option.Option.{Option}
+use Rattle.std.specs.declared.option.Option.the-variants.{Some, None}
+use Rattle.std.proofs.shelf.Tests.{false≢true, leb-true, cases-bool, cases-lt}
+use Rattle.std.proofs.shelf.Lists.{getD-set-same, length-set, length-map}
+use Rattle.turns.specs.declared.limit.Limit.{Limit}
+use Rattle.turns.specs.declared.turn.Turn.{Turn}
+use Rattle.turns.specs.Tables.{Table, turnOf, isAdmitted, limitIn, limitOf, slackIn, slackOf, headCount, emptyTable, dismissed}
+use Rattle.turns.specs.Orders.{SomeOrder, fitsLimits, Bounded}
+use Rattle.turns.specs.Counts.{slackWithin, headsWithin, OrderCounts, StartCounts}
+use Rattle.turns.specs.Calls.{joined, served, aged, renewed}
+use Rattle.turns.proofs.Lists.{one}
+use Rattle.turns.proofs.Counting.{counts-decide-orders}
+use Rattle.turns.proofs.Changes.{inside, count-set, at-set, count-dismissed, at-dismissed, some-aged, limit-aged, slack-aged, limit-renewed, slack-renewed, count-served, within-served, at-served, within-le-count, slack-within, fits-each, each-fits}
+
+-- what a table that can exist keeps
+abbrev pub Keeps : Table → Type 0
+Keeps t = ∥ SomeOrder t ∥₁ × Bounded t
+
+pub counts-of : (t : Table) → ∥ SomeOrder t ∥₁ → OrderCounts t
+counts-of t order k = ∥∥₁-elim order le-prop (λ o. counts-decide-orders .orders t .0 o k)
+
+order-of : (t : Table) → OrderCounts t → ∥ SomeOrder t ∥₁
+order-of t counts = ∣ counts-decide-orders .orders t .1 counts ∣₁
+
+pub slack-positive : (t : Table) (h : ℕ) → OrderCounts t → isAdmitted t h ≡ true → 1 ≤ slackOf t h
+slack-positive t h counts in′ =
+    ⊎-elim
+    (λ lt.
+    absurd
+    (omega (
+      arith,
+      counts 0,
+      count-dismissed (slackWithin 0) refl t h,
+      ap one (slack-within 0 (turnOf t h) in′ (omega arith)),
+    )))
+    (λ ge. ge)
+    (cases-lt (slackOf t h) 1)
+
+-- ---- no head
+turn-empty : (n h : ℕ) → turnOf (replicate n None) h ≡ None
+turn-empty zero h = refl
+turn-empty (suc n) zero = refl
+turn-empty (suc n) (suc h) = turn-empty n h
+
+pub not-in-empty : (h : ℕ) → isAdmitted emptyTable h ≡ false
+not-in-empty h = ap isSome (turn-empty 14 h)
+
+pub empty-keeps : Keeps emptyTable
+empty-keeps = (
+  order-of emptyTable (λ k. omega arith),
+  (refl, λ h. omega (arith, ap slackIn (turn-empty 14 h)), refl),
+)
+
+-- ---- dismissal
+pub dismissed-keeps : (t : Table) (h : ℕ) → Keeps t → Keeps (dismissed t h)
+dismissed-keeps t h (order, (fits, slacks, long)) = (
+  order-of (dismissed t h) (λ k. omega (arith, count-dismissed (slackWithin k) refl t h, counts-of t order k)),
+  (
+    each-fits (dismissed t h)
+        (at-dismissed (λ e. isSome e ≡ true → headCount (dismissed t h) ≤ limitIn e) t h (λ e. absurd (false≢true e))
+        (λ g in′. omega (arith, count-dismissed isSome refl t h, fits-each t fits g in′))),
+    at-dismissed (λ e. slackIn e ≤ limitIn e) t h (omega arith) slacks,
+    length-set t h None ∙ long,
+  ),
+)
+
+-- ---- admission
+none-of : (place : Option Turn) → isSome place ≡ false → place ≡ None
+none-of None e = refl
+none-of (Some turn) e = absurd (false≢true (sym e))
+
+pub joined-keeps : (t : Table) (h : ℕ) (l : Limit) → Keeps t → h < length t → isAdmitted t h ≡ false → fitsLimits (joined t h l) ≡ true → Keeps (joined t h l)
+joined-keeps t h l (order, (old, slacks, long)) lt out fits =
+    let new : Option Turn = Some (record { limit = l; slack = l .value }) in
+    let own : headCount (joined t h l) ≤ l .value =
+    subst (λ e. isSome e ≡ true → headCount (joined t h l) ≤ limitIn e) (getD-set-same t h new None lt)
+    (fits-each (joined t h l) fits h) refl in (
+      order-of (joined t h l)
+          (λ k.
+          let put = count-set (slackWithin k) t h new lt in
+          let gone : one (slackWithin k (turnOf t h)) ≡ 0 = ap (λ e. one (slackWithin k e)) (none-of (turnOf t h) out) in
+          ⊎-elim
+          (λ e. omega (arith, within-le-count k (joined t h l), leb-true (l .value) k e))
+          (λ e. omega (arith, put, ap one e, counts-of t order k))
+          (cases-bool (leb (l .value) k))),
+      (
+        fits,
+        at-set (λ e. slackIn e ≤ limitIn e) t h new lt (omega arith) (λ g ne. slacks g),
+        length-set t h new ∙ long,
+      ),
+    )
+
+-- ---- a slot
+pub served-keeps : (t : Table) (h : ℕ) → Keeps t → StartCounts t h → Keeps (served t h)
+served-keeps t h (order, (fits, slacks, long)) (in′, positive, counts) =
+    let lt = inside t h in′ in
+    let same = count-served t h lt in (
+      order-of (served t h)
+          (λ k.
+          ⊎-elim
+          (λ e.
+          omega (
+            arith,
+            within-le-count k (served t h),
+            fits-each t fits h in′,
+            renewed-limit k (turnOf t h) e,
+          ))
+          (λ e. omega (arith, within-served t h lt k, ap one e, counts k))
+          (cases-bool (slackWithin k (renewed (turnOf t h))))),
+      (
+        each-fits (served t h)
+            (at-served t h lt (λ e. isSome e ≡ true → headCount (served t h) ≤ limitIn e)
+            (λ _. omega (arith, limit-renewed (turnOf t h), fits-each t fits h in′))
+            (λ g ne some. omega (arith, limit-aged (turnOf t g), fits-each t fits g (sym (some-aged (turnOf t g)) ∙ some)))),
+        at-served t h lt (λ e. slackIn e ≤ limitIn e)
+            (omega (arith, slack-renewed (turnOf t h), limit-renewed (turnOf t h)))
+            (λ g ne. omega (arith, slack-aged (turnOf t g), limit-aged (turnOf t g), slacks g)),
+        length-set (map aged t) h (renewed (turnOf t h)) ∙ length-map t aged ∙ long,
+      ),
+    )
+  where
+    renewed-limit : (k : ℕ) (place : Option Turn) → slackWithin k (renewed place) ≡ true → limitIn place ≤ k
+    renewed-limit k None e = omega arith
+    renewed-limit k (Some turn) e = leb-true (turn .limit .value) k e

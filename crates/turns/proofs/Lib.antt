@@ -1,0 +1,6 @@
+pub mod Lists
+pub mod Counting
+pub mod Changes
+pub mod Invariant
+pub mod Choice
+pub mod Outcomes

@@ -1,0 +1,81 @@
+-- Runs of a turn table: any calls in any order, accepted or refused, and what holds of them all.
+--
+--   Call                         an admission, a dismissal, a dismissal of all heads, or a slot to be served
+--   afterCall t call             the table after a call, by the definitions of the calls' own contracts
+--   afterCalls t calls           the table after a list of calls, first to last
+--   slots t calls                the heads that slots were opened for, first to last
+--   StaysAdmitted h t calls      head h is admitted in t and after every call
+--   EveryHeadGetsItsTurn         any L slots opened in a row while a head of limit L stays admitted include one for it
+--   WishesAreGrantedIfTheyCan    a wish for an admitted head is passed over exactly if no order within the slacks
+--                                starts with it
+--   TurnsKeepTheirLaw            both, of every run that starts with the empty table
+--
+-- Assumes nothing.
+use mathlib.Core.Path.{_≡_}
+use mathlib.Core.Bool.{true}
+use mathlib.Core.List.{List, [], _∷_}
+use mathlib.Core.Logic.{_↔_}
+use Prim.Native.Nat.{ℕ, _≤_}
+use lib.ListN.{length}
+use Rattle.std.specs.declared.option.Option.{Option}
+use Rattle.std.specs.declared.option.Option.the-variants.{Some, None}
+use Rattle.turns.specs.declared.limit.Limit.{Limit}
+use Rattle.turns.specs.Tables.{Table, isAdmitted, limitOf, emptyTable}
+use Rattle.turns.specs.Orders.{times, SomeOrderFrom}
+use Rattle.turns.specs.Calls.{afterAdmission, afterDismissal, afterServing, chosen}
+
+-- a number and a wish are any number, also one that is no head's
+pub data Call : Type 0 where
+  admit : (number : ℕ) (l : Limit) → Call
+  dismiss : (number : ℕ) → Call
+  dismissAll : Call
+  serve : (wish : ℕ) → Call
+
+abbrev pub afterCall : Table → Call → Table
+afterCall t (admit number l) = afterAdmission t number l
+afterCall t (dismiss number) = afterDismissal t number
+afterCall t dismissAll = emptyTable
+afterCall t (serve wish) = afterServing t wish
+
+abbrev pub afterCalls : Table → List Call → Table
+afterCalls t [] = t
+afterCalls t (call ∷ calls) = afterCalls (afterCall t call) calls
+
+-- the head that a call opens a slot for, if it opens one
+abbrev pub slotOf : Table → Call → Option ℕ
+slotOf t (admit number l) = None
+slotOf t (dismiss number) = None
+slotOf t dismissAll = None
+slotOf t (serve wish) = chosen t wish
+
+-- a slot, if one was opened, before later ones
+abbrev pub withSlot : Option ℕ → List ℕ → List ℕ
+withSlot None later = later
+withSlot (Some h) later = h ∷ later
+
+abbrev pub slots : Table → List Call → List ℕ
+slots t [] = []
+slots t (call ∷ calls) = withSlot (slotOf t call) (slots (afterCall t call) calls)
+
+abbrev pub StaysAdmitted : ℕ → Table → List Call → Type 0
+StaysAdmitted h t [] = isAdmitted t h ≡ true
+StaysAdmitted h t (call ∷ calls) = (isAdmitted t h ≡ true) × StaysAdmitted h (afterCall t call) calls
+
+abbrev pub EveryHeadGetsItsTurn : Table → Type 0
+EveryHeadGetsItsTurn t =
+    (calls : List Call) (h : ℕ) →
+    StaysAdmitted h t calls →
+    limitOf t h ≤ length (slots t calls) →
+    1 ≤ times h (slots t calls)
+
+abbrev pub PassedOver : Table → ℕ → Type 0
+PassedOver t wish = chosen t wish ≡ Some wish → ⊥
+
+abbrev pub WishesAreGrantedIfTheyCan : Table → Type 0
+WishesAreGrantedIfTheyCan t =
+    (wish : ℕ) → isAdmitted t wish ≡ true → PassedOver t wish ↔ (SomeOrderFrom t wish → ⊥)
+
+-- `before` is the run so far, and each law speaks of what is called after it
+pub record TurnsKeepTheirLaw : Type 0 where
+  pub rounds : (before : List Call) → EveryHeadGetsItsTurn (afterCalls emptyTable before)
+  pub wishes : (before : List Call) → WishesAreGrantedIfTheyCan (afterCalls emptyTable before)

@@ -1,0 +1,59 @@
+-- Turn tables: which heads are admitted, with what limits and slacks.
+--
+--   Table             a place for each head, lowest number first: its turn, or nothing where it is not admitted
+--   turnOf t h        the turn of head h, if it is admitted
+--   isAdmitted t h    whether head h is admitted
+--   limitOf t h       the limit of head h, 0 if it is not admitted
+--   slackOf t h       the slack of head h, 0 if it is not admitted
+--   headCount t       how many heads are admitted
+--   NoHead t          no head is admitted
+--   emptyTable        the table with a place for each of 14 heads, none of them admitted
+--   dismissed t h     t with head h taken off
+--
+-- Assumes nothing.
+use mathlib.Core.Path.{_≡_}
+use mathlib.Core.Bool.{Bool, false}
+use mathlib.Core.List.{List}
+use Prim.Native.Nat.{ℕ}
+use lib.ListN.{getD, set, replicate}
+use Rattle.std.specs.shelf.Lists.{countBy}
+use Rattle.std.specs.Options.{isSome}
+use Rattle.std.specs.declared.option.Option.{Option}
+use Rattle.std.specs.declared.option.Option.the-variants.{Some, None}
+use Rattle.turns.specs.declared.turn.Turn.{Turn}
+
+abbrev pub Table : Type 0
+Table = List (Option Turn)
+
+abbrev pub turnOf : Table → ℕ → Option Turn
+turnOf t h = getD t h None
+
+abbrev pub isAdmitted : Table → ℕ → Bool
+isAdmitted t h = isSome (turnOf t h)
+
+-- what stands at one place of a table
+abbrev pub limitIn : Option Turn → ℕ
+limitIn None = 0
+limitIn (Some turn) = turn .limit .value
+
+abbrev pub slackIn : Option Turn → ℕ
+slackIn None = 0
+slackIn (Some turn) = turn .slack
+
+abbrev pub limitOf : Table → ℕ → ℕ
+limitOf t h = limitIn (turnOf t h)
+
+abbrev pub slackOf : Table → ℕ → ℕ
+slackOf t h = slackIn (turnOf t h)
+
+abbrev pub headCount : Table → ℕ
+headCount t = countBy isSome t
+
+abbrev pub NoHead : Table → Type 0
+NoHead t = (h : ℕ) → isAdmitted t h ≡ false
+
+abbrev pub emptyTable : Table
+emptyTable = replicate 14 None
+
+abbrev pub dismissed : Table → ℕ → Table
+dismissed t h = set t h None

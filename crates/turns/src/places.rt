@@ -1,0 +1,80 @@
+// Loops over the places of a turn table, one for each of 14 heads.
+ghost use mathlib.Core.Path.{_≡_};
+ghost use Prim.Native.Nat.{_<_};
+ghost use Rattle.turns.specs.Orders.{fitsLimits};
+ghost use Rattle.turns.specs.Counts.{headsWithin, leavesFirst};
+ghost use Rattle.turns.specs.Calls.{smallestSlack, served};
+use super::turn::Turn;
+use super::turn::age;
+use super::turn::lesser_limit;
+use super::turn::renew;
+use super::turn::slack_within;
+use super::turn::smaller_slack;
+
+// Whether the heads outnumber no head's limit. No limit is above 14.
+pub fn fits_limits(places: &[Option<Turn>; 14]) -> bool
+    ensures { λ r. ⌜ r ≡ fitsLimits (now (places .entry)) ⌝ }
+{
+    let mut count: u8 = 0;
+    let mut limit: u8 = 14;
+    for place in places {
+        if place.is_some() {
+            count += 1;
+        }
+        limit = lesser_limit(limit, *place);
+    }
+    count <= limit
+}
+
+// How many heads have a slack of at most k.
+pub fn heads_within(places: &[Option<Turn>; 14], k: u8) -> u8
+    ensures { λ r. ⌜ r ≡ headsWithin k (now (places .entry)) ⌝ }
+{
+    let mut count: u8 = 0;
+    for place in places {
+        if slack_within(*place, k) {
+            count += 1;
+        }
+    }
+    count
+}
+
+// Whether an order of these heads leaves the first place to another: for each k from 1 to 14, at most k - 1 of them
+// have a slack of at most k.
+pub fn leaves_first(others: &[Option<Turn>; 14]) -> bool
+    ensures { λ r. ⌜ r ≡ leavesFirst (now (others .entry)) 14 ⌝ }
+{
+    for k in 0..14u8 {
+        if heads_within(others, k + 1) > k {
+            return false;
+        }
+    }
+    true
+}
+
+// The head of smallest slack, the lowest number on a tie.
+pub fn smallest_slack(places: &[Option<Turn>; 14]) -> Option<u8>
+    ensures { λ r. ⌜ r ≡ smallestSlack (now (places .entry)) ⌝ }
+{
+    let mut found: Option<(u8, u8)> = None;
+    for i in 0..14u8 {
+        found = smaller_slack(found, i, places[i as usize]);
+    }
+    match found {
+        Some((h, _)) => Some(h),
+        None => None,
+    }
+}
+
+// The places after a slot for head h.
+pub fn after_slot(places: &[Option<Turn>; 14], h: usize) -> [Option<Turn>; 14]
+    requires { ⌜ h < 14 ⌝ }
+    ensures { λ r. ⌜ r ≡ served (now (places .entry)) h ⌝ }
+{
+    let mut next = *places;
+    for i in 0..14usize {
+        next[i] = age(next[i]);
+    }
+    next[h] = renew(places[h]);
+    next
+}
