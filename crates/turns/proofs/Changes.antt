@@ -1,4 +1,4 @@
--- What a changed place, an aged table and a served head do to counts, limits and slacks. Assumes nothing.
+-- What a changed place, an lowered table and a served head do to counts, limits and slacks. Assumes nothing.
 use mathlib.Core.Path.{_≡_, refl, sym, ap, subst, _∙_}
 use mathlib.Core.Bool.{Bool, true, false, cond}
 use mathlib.Core.Logic.{⊎-elim}
@@ -15,12 +15,12 @@ use Rattle.std.proofs.shelf.Tests.{false≢true, leb-true, leb-false, le-leb, l
 use Rattle.std.proofs.shelf.Lists.{getD-set-same, getD-set-other, getD-past, length-map, set-past}
 use Rattle.std.proofs.shelf.Sums.{sumBy-set}
 use Rattle.turns.specs.declared.turn.Turn.{Turn}
-use Rattle.turns.specs.Tables.{Table, turnOf, isAdmitted, limitIn, limitOf, slackIn, headCount, dismissed}
+use Rattle.turns.specs.Tables.{Table, turnOf, isAdmitted, limitIn, limitOf, slackIn, headCount, withoutHead}
 use Rattle.turns.specs.Orders.{limitsAllow, fitsLimits}
 use Rattle.turns.specs.Counts.{slackWithin, headsWithin}
-use Rattle.turns.specs.Calls.{aged, renewed, served}
+use Rattle.turns.specs.Calls.{lowered, restored, served}
 use Rattle.turns.proofs.Lists.{one, count-cons, count-le}
-use Rattle.turns.proofs.Counting.{turn-dismissed, turn-others}
+use Rattle.turns.proofs.Counting.{turn-without, turn-others}
 
 pub inside : (t : Table) (h : ℕ) → isAdmitted t h ≡ true → h < length t
 inside t h in′ =
@@ -38,95 +38,95 @@ at-set P t h place lt here others g =
     (λ ne. subst P (sym (getD-set-other t h g place None ne)) (others g ne))
     (cases-eq g h)
 
--- ---- one head dismissed
-pub count-dismissed : (p : Option Turn → Bool) → p None ≡ false → (t : Table) (h : ℕ) → countBy p (dismissed t h) + one (p (turnOf t h)) ≡ countBy p t
-count-dismissed p none t h =
+-- ---- one head withoutHead
+pub count-without-head : (p : Option Turn → Bool) → p None ≡ false → (t : Table) (h : ℕ) → countBy p (withoutHead t h) + one (p (turnOf t h)) ≡ countBy p t
+count-without-head p none t h =
     ⊎-elim
     (λ lt. omega (arith, count-set p t h None lt, ap one none))
     (λ ge. omega (arith, ap (countBy p) (set-past t h None ge), ap (λ e. one (p e)) (getD-past t h None ge), ap one none))
     (cases-lt h (length t))
 
-pub at-dismissed : (P : Option Turn → Type 0) (t : Table) (h : ℕ) → P None → ((g : ℕ) → P (turnOf t g)) → (g : ℕ) → P (turnOf (dismissed t h) g)
-at-dismissed P t h none all g =
+pub at-without : (P : Option Turn → Type 0) (t : Table) (h : ℕ) → P None → ((g : ℕ) → P (turnOf t g)) → (g : ℕ) → P (turnOf (withoutHead t h) g)
+at-without P t h none all g =
     ⊎-elim
-    (λ e. subst (λ n. P (turnOf (dismissed t h) n)) (sym e) (subst P (sym (turn-dismissed t h)) none))
+    (λ e. subst (λ n. P (turnOf (withoutHead t h) n)) (sym e) (subst P (sym (turn-without t h)) none))
     (λ ne. subst P (sym (turn-others t h g ne)) (all g))
     (cases-eq g h)
 
 -- ---- a slot for another head
-slack-within-aged : (k : ℕ) (place : Option Turn) → slackWithin k (aged place) ≡ slackWithin (suc k) place
-slack-within-aged k None = refl
-slack-within-aged k (Some turn) =
+slack-within-lowered : (k : ℕ) (place : Option Turn) → slackWithin k (lowered place) ≡ slackWithin (suc k) place
+slack-within-lowered k None = refl
+slack-within-lowered k (Some turn) =
     ⊎-elim
     (λ e. e ∙ sym (le-leb (turn .slack) (suc k) (omega (arith, leb-true (turn .slack - 1) k e))))
     (λ e. e ∙ sym (lt-leb (turn .slack) (suc k) (omega (arith, leb-false (turn .slack - 1) k e))))
     (cases-bool (leb (turn .slack - 1) k))
 
-pub some-aged : (place : Option Turn) → isSome (aged place) ≡ isSome place
-some-aged None = refl
-some-aged (Some turn) = refl
+pub some-lowered : (place : Option Turn) → isSome (lowered place) ≡ isSome place
+some-lowered None = refl
+some-lowered (Some turn) = refl
 
-pub limit-aged : (place : Option Turn) → limitIn (aged place) ≡ limitIn place
-limit-aged None = refl
-limit-aged (Some turn) = refl
+pub limit-lowered : (place : Option Turn) → limitIn (lowered place) ≡ limitIn place
+limit-lowered None = refl
+limit-lowered (Some turn) = refl
 
-pub slack-aged : (place : Option Turn) → slackIn (aged place) ≡ slackIn place - 1
-slack-aged None = refl
-slack-aged (Some turn) = refl
+pub slack-lowered : (place : Option Turn) → slackIn (lowered place) ≡ slackIn place - 1
+slack-lowered None = refl
+slack-lowered (Some turn) = refl
 
-count-aged : (p q : Option Turn → Bool) → ((place : Option Turn) → p (aged place) ≡ q place) → (t : Table) → countBy p (map aged t) ≡ countBy q t
-count-aged p q same [] = refl
-count-aged p q same (place ∷ t) =
-    omega (arith, count-cons p (aged place) (map aged t), count-cons q place t, ap one (same place), count-aged p q same t)
+count-lowered : (p q : Option Turn → Bool) → ((place : Option Turn) → p (lowered place) ≡ q place) → (t : Table) → countBy p (map lowered t) ≡ countBy q t
+count-lowered p q same [] = refl
+count-lowered p q same (place ∷ t) =
+    omega (arith, count-cons p (lowered place) (map lowered t), count-cons q place t, ap one (same place), count-lowered p q same t)
 
-pub turn-aged : (t : Table) (g : ℕ) → turnOf (map aged t) g ≡ aged (turnOf t g)
-turn-aged [] g = refl
-turn-aged (place ∷ t) zero = refl
-turn-aged (place ∷ t) (suc g) = turn-aged t g
+pub turn-lowered : (t : Table) (g : ℕ) → turnOf (map lowered t) g ≡ lowered (turnOf t g)
+turn-lowered [] g = refl
+turn-lowered (place ∷ t) zero = refl
+turn-lowered (place ∷ t) (suc g) = turn-lowered t g
 
 -- ---- a slot for the head itself
-pub some-renewed : (place : Option Turn) → isSome (renewed place) ≡ isSome place
-some-renewed None = refl
-some-renewed (Some turn) = refl
+pub some-restored : (place : Option Turn) → isSome (restored place) ≡ isSome place
+some-restored None = refl
+some-restored (Some turn) = refl
 
-pub limit-renewed : (place : Option Turn) → limitIn (renewed place) ≡ limitIn place
-limit-renewed None = refl
-limit-renewed (Some turn) = refl
+pub limit-restored : (place : Option Turn) → limitIn (restored place) ≡ limitIn place
+limit-restored None = refl
+limit-restored (Some turn) = refl
 
-pub slack-renewed : (place : Option Turn) → slackIn (renewed place) ≡ limitIn place
-slack-renewed None = refl
-slack-renewed (Some turn) = refl
+pub slack-restored : (place : Option Turn) → slackIn (restored place) ≡ limitIn place
+slack-restored None = refl
+slack-restored (Some turn) = refl
 
 module _ (t : Table) (h : ℕ) (lt : h < length t) where
-  here : h < length (map aged t)
-  here = omega (arith, length-map t aged)
+  here : h < length (map lowered t)
+  here = omega (arith, length-map t lowered)
 
   pub count-served : headCount (served t h) ≡ headCount t
   count-served =
       omega (
         arith,
-        count-set isSome (map aged t) h (renewed (turnOf t h)) here,
-        ap (λ e. one (isSome e)) (turn-aged t h),
-        ap one (some-aged (turnOf t h)),
-        ap one (some-renewed (turnOf t h)),
-        count-aged isSome isSome some-aged t,
+        count-set isSome (map lowered t) h (restored (turnOf t h)) here,
+        ap (λ e. one (isSome e)) (turn-lowered t h),
+        ap one (some-lowered (turnOf t h)),
+        ap one (some-restored (turnOf t h)),
+        count-lowered isSome isSome some-lowered t,
       )
 
   -- of the others, those within k now were within k + 1 before
-  pub within-served : (k : ℕ) → headsWithin k (served t h) ≡ headsWithin (suc k) (dismissed t h) + one (slackWithin k (renewed (turnOf t h)))
+  pub within-served : (k : ℕ) → headsWithin k (served t h) ≡ headsWithin (suc k) (withoutHead t h) + one (slackWithin k (restored (turnOf t h)))
   within-served k =
       omega (
         arith,
-        count-set (slackWithin k) (map aged t) h (renewed (turnOf t h)) here,
-        ap (λ e. one (slackWithin k e)) (turn-aged t h),
-        ap one (slack-within-aged k (turnOf t h)),
-        count-aged (slackWithin k) (slackWithin (suc k)) (slack-within-aged k) t,
-        count-dismissed (slackWithin (suc k)) refl t h,
+        count-set (slackWithin k) (map lowered t) h (restored (turnOf t h)) here,
+        ap (λ e. one (slackWithin k e)) (turn-lowered t h),
+        ap one (slack-within-lowered k (turnOf t h)),
+        count-lowered (slackWithin k) (slackWithin (suc k)) (slack-within-lowered k) t,
+        count-without-head (slackWithin (suc k)) refl t h,
       )
 
-  pub at-served : (P : Option Turn → Type 0) → P (renewed (turnOf t h)) → ((g : ℕ) → (g ≡ h → ⊥) → P (aged (turnOf t g))) → (g : ℕ) → P (turnOf (served t h) g)
+  pub at-served : (P : Option Turn → Type 0) → P (restored (turnOf t h)) → ((g : ℕ) → (g ≡ h → ⊥) → P (lowered (turnOf t g))) → (g : ℕ) → P (turnOf (served t h) g)
   at-served P own others =
-      at-set P (map aged t) h (renewed (turnOf t h)) here own (λ g ne. subst P (sym (turn-aged t g)) (others g ne))
+      at-set P (map lowered t) h (restored (turnOf t h)) here own (λ g ne. subst P (sym (turn-lowered t g)) (others g ne))
 
 -- ---- small slacks, one head at a time
 within-some : (k : ℕ) (place : Option Turn) → slackWithin k place ≡ true → isSome place ≡ true

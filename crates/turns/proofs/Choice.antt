@@ -17,13 +17,13 @@ use Rattle.std.proofs.shelf.Ways.{decides-and, decides-like}
 use Rattle.std.proofs.shelf.Lists.{getD-past, length-set}
 use Rattle.std.proofs.shelf.Sums.{countBy-le-length}
 use Rattle.turns.specs.declared.turn.Turn.{Turn}
-use Rattle.turns.specs.Tables.{Table, turnOf, isAdmitted, slackIn, slackOf, NoHead, dismissed}
+use Rattle.turns.specs.Tables.{Table, turnOf, isAdmitted, slackIn, slackOf, NoHead, withoutHead}
 use Rattle.turns.specs.Orders.{SomeOrder, SomeOrderFrom, Bounded}
 use Rattle.turns.specs.Counts.{slackWithin, headsWithin, OrderCounts, StartCounts, leavesFirst, canStart}
-use Rattle.turns.specs.Calls.{Smallest, TurnOf, Chosen, smaller, smallestFrom, smallestSlack, chosen, ChosenIsComputed}
+use Rattle.turns.specs.Choice.{Smallest, TurnOf, Chosen, smaller, smallestFrom, smallestSlack, chosen, ChosenIsComputed}
 use Rattle.turns.proofs.Lists.{one, count-yes, count-no}
 use Rattle.turns.proofs.Counting.{counts-decide-orders, leaves-first-decides}
-use Rattle.turns.proofs.Changes.{inside, count-dismissed, slack-within}
+use Rattle.turns.proofs.Changes.{inside, count-without-head, slack-within}
 use Rattle.turns.proofs.Invariant.{Keeps, counts-of, slack-positive}
 
 -- ---- the search for the smallest slack: the best of the places below i, with its slack
@@ -136,7 +136,7 @@ smallest-starts t h counts least =
       least .admitted,
       slack-positive t h counts (least .admitted),
       λ k.
-          let gone = count-dismissed (slackWithin (suc k)) refl t h in
+          let gone = count-without-head (slackWithin (suc k)) refl t h in
           ⊎-elim
           (λ lt. omega (arith, gone, within-none (suc k) t (λ g a. omega (arith, least .smallest g a))))
           (λ le. omega (arith, gone, counts (suc k), ap one (slack-within (suc k) (turnOf t h) (least .admitted) le)))
@@ -145,11 +145,11 @@ smallest-starts t h counts least =
 
 -- ---- the computed test
 -- past 14 nothing has to be counted
-all-counts : (t : Table) (h : ℕ) → length t ≡ 14 → ((k : ℕ) → k < 14 → headsWithin (suc k) (dismissed t h) ≤ k) → (k : ℕ) → headsWithin (suc k) (dismissed t h) ≤ k
+all-counts : (t : Table) (h : ℕ) → length t ≡ 14 → ((k : ℕ) → k < 14 → headsWithin (suc k) (withoutHead t h) ≤ k) → (k : ℕ) → headsWithin (suc k) (withoutHead t h) ≤ k
 all-counts t h long first k =
     ⊎-elim
     (λ lt. first k lt)
-    (λ ge. omega (arith, length-set t h None, countBy-le-length (slackWithin (suc k)) (dismissed t h)))
+    (λ ge. omega (arith, length-set t h None, countBy-le-length (slackWithin (suc k)) (withoutHead t h)))
     (cases-lt k 14)
 
 pub can-start-decides : (t : Table) (h : ℕ) → Keeps t → Decides (canStart t h) (SomeOrderFrom t h)
@@ -157,7 +157,7 @@ can-start-decides t h (order, (fits, slacks, long)) =
     decides-like (canStart t h)
     (λ p. counts-decide-orders .starts t h .1 (p .0, slack-positive t h (counts-of t order) (p .0), all-counts t h long (p .1)))
     (λ starts. let counts = counts-decide-orders .starts t h .0 starts in (counts .0, λ k lt. counts .2 k))
-    (decides-and (isAdmitted t h) (leavesFirst (dismissed t h) 14) (λ e. e, λ e. e) (leaves-first-decides (dismissed t h) 14))
+    (decides-and (isAdmitted t h) (leavesFirst (withoutHead t h) 14) (λ e. e, λ e. e) (leaves-first-decides (withoutHead t h) 14))
 
 -- ---- the choice
 module _ (t : Table) (wish : ℕ) (keeps : Keeps t) where

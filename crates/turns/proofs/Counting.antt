@@ -17,7 +17,7 @@ use Rattle.std.proofs.shelf.Tests.{eq-eqb, ne-eqb, leb-true, le-leb, cases-bool
 use Rattle.std.proofs.shelf.Ways.{decides-below-and}
 use Rattle.std.proofs.shelf.Lists.{getD-set-same, getD-set-other, getD-past, length-set}
 use Rattle.turns.specs.declared.turn.Turn.{Turn}
-use Rattle.turns.specs.Tables.{Table, turnOf, isAdmitted, slackIn, slackOf, dismissed}
+use Rattle.turns.specs.Tables.{Table, turnOf, isAdmitted, slackIn, slackOf, withoutHead}
 use Rattle.turns.specs.Orders.{times, Order, WithinSlacks, SomeOrder, SomeOrderFrom}
 use Rattle.turns.specs.Counts.{slackWithin, headsWithin, OrderCounts, StartCounts, CountsDecideOrders, leavesFirst}
 use Rattle.turns.proofs.Lists.{one, count-cons, count-yes, count-no, count-le, count-early, times-own, times-here, same-count, sort, count-sort, sorted-sort, sorted-place}
@@ -110,19 +110,19 @@ slot-is-place n lt = rw (div-one n) at lt
 place-is-slot : (n : ℕ) {s : ℕ} → n < s → n / 1 < s
 place-is-slot n lt = rw (div-one n) lt
 
--- ---- a table with one head dismissed
-pub turn-dismissed : (t : Table) (h : ℕ) → turnOf (dismissed t h) h ≡ None
-turn-dismissed t h =
+-- ---- a table with one head withoutHead
+pub turn-without : (t : Table) (h : ℕ) → turnOf (withoutHead t h) h ≡ None
+turn-without t h =
     ⊎-elim
     (λ lt. getD-set-same t h None None lt)
-    (λ ge. getD-past (dismissed t h) h None (omega (arith, length-set t h None)))
+    (λ ge. getD-past (withoutHead t h) h None (omega (arith, length-set t h None)))
     (cases-lt h (length t))
 
-pub turn-others : (t : Table) (h g : ℕ) → (g ≡ h → ⊥) → turnOf (dismissed t h) g ≡ turnOf t g
+pub turn-others : (t : Table) (h g : ℕ) → (g ≡ h → ⊥) → turnOf (withoutHead t h) g ≡ turnOf t g
 turn-others t h g ne = getD-set-other t h g None None ne
 
 module _ (t : Table) (h : ℕ) (o : List ℕ) where
-  order-rest : Order t (h ∷ o) → (isAdmitted t h ≡ true) × Order (dismissed t h) o
+  order-rest : Order t (h ∷ o) → (isAdmitted t h ≡ true) × Order (withoutHead t h) o
   order-rest order =
       let own : suc (times h o) ≡ cond (isAdmitted t h) 1 0 = sym (times-own h o) ∙ order h in
       let in′ : isAdmitted t h ≡ true =
@@ -131,13 +131,13 @@ module _ (t : Table) (h : ℕ) (o : List ℕ) where
         λ g.
             ⊎-elim
             (λ e.
-            subst (λ n. times n o ≡ cond (isAdmitted (dismissed t h) n) 1 0) (sym e)
-            (rw (turn-dismissed t h) (omega (arith, own, cond-true {A = ℕ} (isAdmitted t h) 1 0 in′))))
+            subst (λ n. times n o ≡ cond (isAdmitted (withoutHead t h) n) 1 0) (sym e)
+            (rw (turn-without t h) (omega (arith, own, cond-true {A = ℕ} (isAdmitted t h) 1 0 in′))))
             (λ ne. rw (turn-others t h g ne) (sym (count-no (eqb g) h o (ne-eqb g h ne)) ∙ order g))
             (cases-eq g h),
       )
 
-  order-first : isAdmitted t h ≡ true → Order (dismissed t h) o → Order t (h ∷ o)
+  order-first : isAdmitted t h ≡ true → Order (withoutHead t h) o → Order t (h ∷ o)
   order-first in′ order g =
       ⊎-elim
       (λ e.
@@ -147,12 +147,12 @@ module _ (t : Table) (h : ℕ) (o : List ℕ) where
         times-own h o,
         cond-true {A = ℕ} (isAdmitted t h) 1 0 in′,
         order h,
-        ap (λ turn. one (isSome turn)) (turn-dismissed t h),
+        ap (λ turn. one (isSome turn)) (turn-without t h),
       )))
       (λ ne. count-no (eqb g) h o (ne-eqb g h ne) ∙ (rw (turn-others t h g ne) at (order g)))
       (cases-eq g h)
 
-  slack-rest : Order (dismissed t h) o → (i : ℕ) → i < length o → slackOf (dismissed t h) (getD o i 0) ≡ slackOf t (getD o i 0)
+  slack-rest : Order (withoutHead t h) o → (i : ℕ) → i < length o → slackOf (withoutHead t h) (getD o i 0) ≡ slackOf t (getD o i 0)
   slack-rest order i lt =
       ap slackIn
       (turn-others t h (getD o i 0)
@@ -162,7 +162,7 @@ module _ (t : Table) (h : ℕ) (o : List ℕ) where
         times-here o i lt,
         ap (λ g. times g o) e,
         order h,
-        ap (λ turn. one (isSome turn)) (turn-dismissed t h),
+        ap (λ turn. one (isSome turn)) (turn-without t h),
       )))
 
 -- ---- the theorem
@@ -181,7 +181,7 @@ start-counts t h (o, order, within) =
       λ k.
           omega (
             arith,
-            order-counts 1 1 (dismissed t h) (omega arith) o (rest .1)
+            order-counts 1 1 (withoutHead t h) (omega arith) o (rest .1)
                 (λ i lt. place-is-slot (1 + i) (rw (slack-rest t h o (rest .1) i lt) (omega (arith, within (suc i) (omega arith)))))
                 (suc k),
           ),
@@ -189,14 +189,14 @@ start-counts t h (o, order, within) =
 
 counts-start : (t : Table) (h : ℕ) → StartCounts t h → SomeOrderFrom t h
 counts-start t h (in′, positive, counts) =
-    let (o, order, within) = counts-order 1 1 (dismissed t h) (omega arith) room in
+    let (o, order, within) = counts-order 1 1 (withoutHead t h) (omega arith) room in
     (o, order-first t h o in′ order, places o order within)
   where
-    room : (k : ℕ) → headsWithin k (dismissed t h) ≤ 1 * k - 1
-    room zero = omega (arith, within-more 0 (dismissed t h), counts 0)
+    room : (k : ℕ) → headsWithin k (withoutHead t h) ≤ 1 * k - 1
+    room zero = omega (arith, within-more 0 (withoutHead t h), counts 0)
     room (suc k) = omega (arith, counts k)
 
-    places : (o : List ℕ) → Order (dismissed t h) o → WithinSlots 1 1 (dismissed t h) o → WithinSlacks t (h ∷ o)
+    places : (o : List ℕ) → Order (withoutHead t h) o → WithinSlots 1 1 (withoutHead t h) o → WithinSlacks t (h ∷ o)
     places o order within zero lt = positive
     places o order within (suc i) lt =
         let inside : i < length o = omega arith in

@@ -15,13 +15,13 @@ use Rattle.std.proofs.shelf.Tests.{false≢true, leb-true, cases-bool, cases-lt
 use Rattle.std.proofs.shelf.Lists.{getD-set-same, length-set, length-map}
 use Rattle.turns.specs.declared.limit.Limit.{Limit}
 use Rattle.turns.specs.declared.turn.Turn.{Turn}
-use Rattle.turns.specs.Tables.{Table, turnOf, isAdmitted, limitIn, limitOf, slackIn, slackOf, headCount, emptyTable, dismissed}
+use Rattle.turns.specs.Tables.{Table, turnOf, isAdmitted, limitIn, limitOf, slackIn, slackOf, headCount, emptyTable, withoutHead, withHead}
 use Rattle.turns.specs.Orders.{SomeOrder, fitsLimits, Bounded}
 use Rattle.turns.specs.Counts.{slackWithin, headsWithin, OrderCounts, StartCounts}
-use Rattle.turns.specs.Calls.{joined, served, aged, renewed}
+use Rattle.turns.specs.Calls.{served, lowered, restored}
 use Rattle.turns.proofs.Lists.{one}
 use Rattle.turns.proofs.Counting.{counts-decide-orders}
-use Rattle.turns.proofs.Changes.{inside, count-set, at-set, count-dismissed, at-dismissed, some-aged, limit-aged, slack-aged, limit-renewed, slack-renewed, count-served, within-served, at-served, within-le-count, slack-within, fits-each, each-fits}
+use Rattle.turns.proofs.Changes.{inside, count-set, at-set, count-without-head, at-without, some-lowered, limit-lowered, slack-lowered, limit-restored, slack-restored, count-served, within-served, at-served, within-le-count, slack-within, fits-each, each-fits}
 
 -- what a table that can exist keeps
 abbrev pub Keeps : Table → Type 0
@@ -41,7 +41,7 @@ slack-positive t h counts in′ =
     (omega (
       arith,
       counts 0,
-      count-dismissed (slackWithin 0) refl t h,
+      count-without-head (slackWithin 0) refl t h,
       ap one (slack-within 0 (turnOf t h) in′ (omega arith)),
     )))
     (λ ge. ge)
@@ -63,14 +63,14 @@ empty-keeps = (
 )
 
 -- ---- dismissal
-pub dismissed-keeps : (t : Table) (h : ℕ) → Keeps t → Keeps (dismissed t h)
-dismissed-keeps t h (order, (fits, slacks, long)) = (
-  order-of (dismissed t h) (λ k. omega (arith, count-dismissed (slackWithin k) refl t h, counts-of t order k)),
+pub without-head-keeps : (t : Table) (h : ℕ) → Keeps t → Keeps (withoutHead t h)
+without-head-keeps t h (order, (fits, slacks, long)) = (
+  order-of (withoutHead t h) (λ k. omega (arith, count-without-head (slackWithin k) refl t h, counts-of t order k)),
   (
-    each-fits (dismissed t h)
-        (at-dismissed (λ e. isSome e ≡ true → headCount (dismissed t h) ≤ limitIn e) t h (λ e. absurd (false≢true e))
-        (λ g in′. omega (arith, count-dismissed isSome refl t h, fits-each t fits g in′))),
-    at-dismissed (λ e. slackIn e ≤ limitIn e) t h (omega arith) slacks,
+    each-fits (withoutHead t h)
+        (at-without (λ e. isSome e ≡ true → headCount (withoutHead t h) ≤ limitIn e) t h (λ e. absurd (false≢true e))
+        (λ g in′. omega (arith, count-without-head isSome refl t h, fits-each t fits g in′))),
+    at-without (λ e. slackIn e ≤ limitIn e) t h (omega arith) slacks,
     length-set t h None ∙ long,
   ),
 )
@@ -80,18 +80,18 @@ none-of : (place : Option Turn) → isSome place ≡ false → place ≡ None
 none-of None e = refl
 none-of (Some turn) e = absurd (false≢true (sym e))
 
-pub joined-keeps : (t : Table) (h : ℕ) (l : Limit) → Keeps t → h < length t → isAdmitted t h ≡ false → fitsLimits (joined t h l) ≡ true → Keeps (joined t h l)
-joined-keeps t h l (order, (old, slacks, long)) lt out fits =
+pub with-head-keeps : (t : Table) (h : ℕ) (l : Limit) → Keeps t → h < length t → isAdmitted t h ≡ false → fitsLimits (withHead t h l) ≡ true → Keeps (withHead t h l)
+with-head-keeps t h l (order, (old, slacks, long)) lt out fits =
     let new : Option Turn = Some (record { limit = l; slack = l .value }) in
-    let own : headCount (joined t h l) ≤ l .value =
-    subst (λ e. isSome e ≡ true → headCount (joined t h l) ≤ limitIn e) (getD-set-same t h new None lt)
-    (fits-each (joined t h l) fits h) refl in (
-      order-of (joined t h l)
+    let own : headCount (withHead t h l) ≤ l .value =
+    subst (λ e. isSome e ≡ true → headCount (withHead t h l) ≤ limitIn e) (getD-set-same t h new None lt)
+    (fits-each (withHead t h l) fits h) refl in (
+      order-of (withHead t h l)
           (λ k.
           let put = count-set (slackWithin k) t h new lt in
           let gone : one (slackWithin k (turnOf t h)) ≡ 0 = ap (λ e. one (slackWithin k e)) (none-of (turnOf t h) out) in
           ⊎-elim
-          (λ e. omega (arith, within-le-count k (joined t h l), leb-true (l .value) k e))
+          (λ e. omega (arith, within-le-count k (withHead t h l), leb-true (l .value) k e))
           (λ e. omega (arith, put, ap one e, counts-of t order k))
           (cases-bool (leb (l .value) k))),
       (
@@ -114,22 +114,22 @@ served-keeps t h (order, (fits, slacks, long)) (in′, positive, counts) =
             arith,
             within-le-count k (served t h),
             fits-each t fits h in′,
-            renewed-limit k (turnOf t h) e,
+            restored-limit k (turnOf t h) e,
           ))
           (λ e. omega (arith, within-served t h lt k, ap one e, counts k))
-          (cases-bool (slackWithin k (renewed (turnOf t h))))),
+          (cases-bool (slackWithin k (restored (turnOf t h))))),
       (
         each-fits (served t h)
             (at-served t h lt (λ e. isSome e ≡ true → headCount (served t h) ≤ limitIn e)
-            (λ _. omega (arith, limit-renewed (turnOf t h), fits-each t fits h in′))
-            (λ g ne some. omega (arith, limit-aged (turnOf t g), fits-each t fits g (sym (some-aged (turnOf t g)) ∙ some)))),
+            (λ _. omega (arith, limit-restored (turnOf t h), fits-each t fits h in′))
+            (λ g ne some. omega (arith, limit-lowered (turnOf t g), fits-each t fits g (sym (some-lowered (turnOf t g)) ∙ some)))),
         at-served t h lt (λ e. slackIn e ≤ limitIn e)
-            (omega (arith, slack-renewed (turnOf t h), limit-renewed (turnOf t h)))
-            (λ g ne. omega (arith, slack-aged (turnOf t g), limit-aged (turnOf t g), slacks g)),
-        length-set (map aged t) h (renewed (turnOf t h)) ∙ length-map t aged ∙ long,
+            (omega (arith, slack-restored (turnOf t h), limit-restored (turnOf t h)))
+            (λ g ne. omega (arith, slack-lowered (turnOf t g), limit-lowered (turnOf t g), slacks g)),
+        length-set (map lowered t) h (restored (turnOf t h)) ∙ length-map t lowered ∙ long,
       ),
     )
   where
-    renewed-limit : (k : ℕ) (place : Option Turn) → slackWithin k (renewed place) ≡ true → limitIn place ≤ k
-    renewed-limit k None e = omega arith
-    renewed-limit k (Some turn) e = leb-true (turn .limit .value) k e
+    restored-limit : (k : ℕ) (place : Option Turn) → slackWithin k (restored place) ≡ true → limitIn place ≤ k
+    restored-limit k None e = omega arith
+    restored-limit k (Some turn) e = leb-true (turn .limit .value) k e

@@ -4,3 +4,4 @@ pub mod Changes
 pub mod Invariant
 pub mod Choice
 pub mod Outcomes
+pub mod Rounds

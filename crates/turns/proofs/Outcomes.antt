@@ -12,9 +12,9 @@ use Rattle.turns.specs.declared.limit.Limit.{Limit}
 use Rattle.turns.specs.declared.fault.AdmissionFault.{AdmissionFault}
 use Rattle.turns.specs.declared.fault.AdmissionFault.the-variants as admission
 use Rattle.turns.specs.declared.fault.DismissalFault.the-variants as dismissal
-use Rattle.turns.specs.Tables.{Table, isAdmitted, dismissed}
+use Rattle.turns.specs.Tables.{Table, isAdmitted, withoutHead, withHead}
 use Rattle.turns.specs.Orders.{fitsLimits}
-use Rattle.turns.specs.Calls.{andThen, ifAccepted, numberAnswer, joined, afterAdmission, afterDismissal}
+use Rattle.turns.specs.Calls.{andThen, ifAccepted, numberAnswer, afterAdmission, afterDismissal}
 
 pub number-accepted : (t : Table) (h : ℕ) (done : Unit {0}) → Ok done ≡ numberAnswer t h → (h ≤ 13) × (isAdmitted t h ≡ false)
 number-accepted t h done e =
@@ -35,9 +35,9 @@ number-accepted t h done e =
     (cases-bool (ltb 13 h))
 
 module _ (P : Table → Type 0) (t : Table) (h : ℕ) (before : P t) where
-  pub after-admission : (l : Limit) → (h ≤ 13 → isAdmitted t h ≡ false → fitsLimits (joined t h l) ≡ true → P (joined t h l)) → P (afterAdmission t h l)
+  pub after-admission : (l : Limit) → (h ≤ 13 → isAdmitted t h ≡ false → fitsLimits (withHead t h l) ≡ true → P (withHead t h l)) → P (afterAdmission t h l)
   after-admission l accepted =
-      let new = joined t h l in
+      let new = withHead t h l in
       let last : Result (Unit {0}) AdmissionFault = cond (fitsLimits new) (Ok tt) (Err admission.Outnumbered) in
       cond-both (ltb 13 h) (Err admission.NumberOver13) (cond (isAdmitted t h) (Err admission.AdmittedAlready) (Ok tt))
       (λ r. P (ifAccepted (andThen r last) new t))
@@ -52,13 +52,13 @@ module _ (P : Table → Type 0) (t : Table) (h : ℕ) (before : P t) where
       (λ fits. accepted (ltb-false 13 h low) out fits)
       (λ over. before)))
 
-  pub after-dismissal : (isAdmitted t h ≡ true → P (dismissed t h)) → P (afterDismissal t h)
+  pub after-dismissal : (isAdmitted t h ≡ true → P (withoutHead t h)) → P (afterDismissal t h)
   after-dismissal accepted =
       cond-both (ltb 13 h) (Err dismissal.NumberOver13) (cond (isAdmitted t h) (Ok tt) (Err dismissal.NotAdmitted))
-      (λ r. P (ifAccepted r (dismissed t h) t))
+      (λ r. P (ifAccepted r (withoutHead t h) t))
       (λ over. before)
       (λ low.
       cond-both (isAdmitted t h) (Ok tt) (Err dismissal.NotAdmitted)
-      (λ r. P (ifAccepted r (dismissed t h) t))
+      (λ r. P (ifAccepted r (withoutHead t h) t))
       accepted
       (λ out. before))

@@ -18,7 +18,7 @@ use Rattle.std.specs.shelf.Lists.{countBy}
 use Rattle.std.specs.declared.option.Option.{Option}
 use Rattle.std.specs.declared.option.Option.the-variants.{Some, None}
 use Rattle.turns.specs.declared.turn.Turn.{Turn}
-use Rattle.turns.specs.Tables.{Table, isAdmitted, slackOf, dismissed}
+use Rattle.turns.specs.Tables.{Table, isAdmitted, slackOf, withoutHead}
 use Rattle.turns.specs.Orders.{SomeOrder, SomeOrderFrom}
 
 abbrev pub slackWithin : ℕ → Option Turn → Bool
@@ -34,7 +34,7 @@ OrderCounts t = (k : ℕ) → headsWithin k t ≤ k
 -- k counts from 0 here, so that a slack of `suc k` leaves k places to the others
 abbrev pub StartCounts : Table → ℕ → Type 0
 StartCounts t h =
-    (isAdmitted t h ≡ true) × (1 ≤ slackOf t h) × ((k : ℕ) → headsWithin (suc k) (dismissed t h) ≤ k)
+    (isAdmitted t h ≡ true) × (1 ≤ slackOf t h) × ((k : ℕ) → headsWithin (suc k) (withoutHead t h) ≤ k)
 
 pub record CountsDecideOrders : Type 0 where
   pub orders : (t : Table) → SomeOrder t ↔ OrderCounts t
@@ -46,4 +46,4 @@ leavesFirst others zero = true
 leavesFirst others (suc k) = leb (headsWithin (suc k) others) k && leavesFirst others k
 
 abbrev pub canStart : Table → ℕ → Bool
-canStart t h = isAdmitted t h && leavesFirst (dismissed t h) 14
+canStart t h = isAdmitted t h && leavesFirst (withoutHead t h) 14

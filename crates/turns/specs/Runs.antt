@@ -5,10 +5,11 @@
 --   afterCalls t calls           the table after a list of calls, first to last
 --   slots t calls                the heads that slots were opened for, first to last
 --   StaysAdmitted h t calls      head h is admitted in t and after every call
---   EveryHeadGetsItsTurn         any L slots opened in a row while a head of limit L stays admitted include one for it
---   WishesAreGrantedIfTheyCan    a wish for an admitted head is passed over exactly if no order within the slacks
---                                starts with it
---   TurnsKeepTheirLaw            both, of every run that starts with the empty table
+--   EveryHeadGetsItsTurn t       after t, any L slots opened in a row while a head of limit L stays admitted include one
+--                                for it
+--   WishesAreGrantedIfPossible t a wish is granted in t exactly if some order within the slacks starts with it, so it is
+--                                passed over exactly if no such order does
+--   TurnsKeepTheirLaw            both, at every moment of every run that starts with the empty table
 --
 -- Assumes nothing.
 use mathlib.Core.Path.{_≡_}
@@ -22,7 +23,8 @@ use Rattle.std.specs.declared.option.Option.the-variants.{Some, None}
 use Rattle.turns.specs.declared.limit.Limit.{Limit}
 use Rattle.turns.specs.Tables.{Table, isAdmitted, limitOf, emptyTable}
 use Rattle.turns.specs.Orders.{times, SomeOrderFrom}
-use Rattle.turns.specs.Calls.{afterAdmission, afterDismissal, afterServing, chosen}
+use Rattle.turns.specs.Choice.{chosen}
+use Rattle.turns.specs.Calls.{afterAdmission, afterDismissal, afterServing}
 
 -- a number and a wish are any number, also one that is no head's
 pub data Call : Type 0 where
@@ -68,14 +70,15 @@ EveryHeadGetsItsTurn t =
     limitOf t h ≤ length (slots t calls) →
     1 ≤ times h (slots t calls)
 
-abbrev pub PassedOver : Table → ℕ → Type 0
-PassedOver t wish = chosen t wish ≡ Some wish → ⊥
+-- the slot is opened for the head wished for
+abbrev pub Granted : Table → ℕ → Type 0
+Granted t wish = chosen t wish ≡ Some wish
 
-abbrev pub WishesAreGrantedIfTheyCan : Table → Type 0
-WishesAreGrantedIfTheyCan t =
-    (wish : ℕ) → isAdmitted t wish ≡ true → PassedOver t wish ↔ (SomeOrderFrom t wish → ⊥)
+pub record WishesAreGrantedIfPossible (t : Table) : Type 0 where
+  pub granted : (wish : ℕ) → Granted t wish ↔ SomeOrderFrom t wish
+  pub passed-over : (wish : ℕ) → (Granted t wish → ⊥) ↔ (SomeOrderFrom t wish → ⊥)
 
--- `before` is the run so far, and each law speaks of what is called after it
+-- `before` is the run so far, and each law speaks of the table that it leaves
 pub record TurnsKeepTheirLaw : Type 0 where
   pub rounds : (before : List Call) → EveryHeadGetsItsTurn (afterCalls emptyTable before)
-  pub wishes : (before : List Call) → WishesAreGrantedIfTheyCan (afterCalls emptyTable before)
+  pub wishes : (before : List Call) → WishesAreGrantedIfPossible (afterCalls emptyTable before)

@@ -8,7 +8,8 @@
 --   headCount t       how many heads are admitted
 --   NoHead t          no head is admitted
 --   emptyTable        the table with a place for each of 14 heads, none of them admitted
---   dismissed t h     t with head h taken off
+--   withHead t h l    t with head h admitted, its slack at its limit l
+--   withoutHead t h   t with head h dismissed
 --
 -- Assumes nothing.
 use mathlib.Core.Path.{_≡_}
@@ -20,6 +21,7 @@ use Rattle.std.specs.shelf.Lists.{countBy}
 use Rattle.std.specs.Options.{isSome}
 use Rattle.std.specs.declared.option.Option.{Option}
 use Rattle.std.specs.declared.option.Option.the-variants.{Some, None}
+use Rattle.turns.specs.declared.limit.Limit.{Limit}
 use Rattle.turns.specs.declared.turn.Turn.{Turn}
 
 abbrev pub Table : Type 0
@@ -55,5 +57,8 @@ NoHead t = (h : ℕ) → isAdmitted t h ≡ false
 abbrev pub emptyTable : Table
 emptyTable = replicate 14 None
 
-abbrev pub dismissed : Table → ℕ → Table
-dismissed t h = set t h None
+abbrev pub withHead : Table → ℕ → Limit → Table
+withHead t h l = set t h (Some (record { limit = l; slack = l .value }))
+
+abbrev pub withoutHead : Table → ℕ → Table
+withoutHead t h = set t h None

@@ -3,11 +3,12 @@ ghost use mathlib.Core.Path.{_≡_};
 ghost use Prim.Native.Nat.{_<_};
 ghost use Rattle.turns.specs.Orders.{fitsLimits};
 ghost use Rattle.turns.specs.Counts.{headsWithin, leavesFirst};
-ghost use Rattle.turns.specs.Calls.{smallestSlack, served};
+ghost use Rattle.turns.specs.Choice.{smallestSlack};
+ghost use Rattle.turns.specs.Calls.{served};
 use super::turn::Turn;
-use super::turn::age;
 use super::turn::lesser_limit;
-use super::turn::renew;
+use super::turn::lower_slack;
+use super::turn::restore_slack;
 use super::turn::slack_within;
 use super::turn::smaller_slack;
 
@@ -73,8 +74,8 @@ pub fn after_slot(places: &[Option<Turn>; 14], h: usize) -> [Option<Turn>; 14]
 {
     let mut next = *places;
     for i in 0..14usize {
-        next[i] = age(next[i]);
+        next[i] = lower_slack(next[i]);
     }
-    next[h] = renew(places[h]);
+    next[h] = restore_slack(places[h]);
     next
 }

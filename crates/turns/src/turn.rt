@@ -5,7 +5,8 @@ ghost use Prim.Native.Nat.{ℕ};
 ghost use lib.Dec.{leb};
 ghost use Rattle.turns.specs.Orders.{limitAllows};
 ghost use Rattle.turns.specs.Counts.{slackWithin};
-ghost use Rattle.turns.specs.Calls.{smaller, aged, renewed};
+ghost use Rattle.turns.specs.Choice.{smaller};
+ghost use Rattle.turns.specs.Calls.{lowered, restored};
 use super::limit::Limit;
 
 #[derive(Clone, Copy)]
@@ -53,8 +54,8 @@ pub fn smaller_slack(found: Option<(u8, u8)>, i: u8, place: Option<Turn>) -> Opt
 }
 
 // The place after a slot for another head. A slack is never 0 here, since an order keeps every head within it.
-pub fn age(place: Option<Turn>) -> Option<Turn>
-    ensures { λ r. ⌜ r ≡ aged place ⌝ }
+pub fn lower_slack(place: Option<Turn>) -> Option<Turn>
+    ensures { λ r. ⌜ r ≡ lowered place ⌝ }
 {
     match place {
         Some(turn) => Some(Turn {
@@ -66,8 +67,8 @@ pub fn age(place: Option<Turn>) -> Option<Turn>
 }
 
 // The place after a slot for the head here.
-pub fn renew(place: Option<Turn>) -> Option<Turn>
-    ensures { λ r. ⌜ r ≡ renewed place ⌝ }
+pub fn restore_slack(place: Option<Turn>) -> Option<Turn>
+    ensures { λ r. ⌜ r ≡ restored place ⌝ }
 {
     match place {
         Some(turn) => Some(Turn {

@@ -9,7 +9,7 @@ use Rattle.std.specs.declared.option.Option.{Option}
 use Rattle.std.specs.declared.option.Option.the-variants.{None}
 use Rattle.std.proofs.shelf.Lists.{at-drop-all}
 use Rattle.turns.specs.Tables.{Table}
-use Rattle.turns.specs.Calls.{smallestFrom}
+use Rattle.turns.specs.Choice.{smallestFrom}
 use Rattle.turns.proofs.places.smallest_slack.Needs as need
 
 pub loop-i-again : need.loop-i-again

@@ -6,7 +6,7 @@ use lib.ListN.{set}
 use Rattle.std.specs.declared.option.Option.the-variants.{Some}
 use Rattle.turns.specs.Tables.{Table}
 use Rattle.turns.specs.Orders.{fitsLimits}
-use Rattle.turns.proofs.Invariant.{Keeps, joined-keeps}
+use Rattle.turns.proofs.Invariant.{Keeps, with-head-keeps}
 use Rattle.turns.proofs.Outcomes.{number-accepted}
 use Rattle.turns.proofs.table.TurnTable.admit.Needs as need
 
@@ -21,5 +21,5 @@ ghost-self c =
     subst (λ slack. fitsLimits (with′ slack) ≡ true) (c .value .ensures) (sym (c .if-not-fits-limits .ensures tt)) in
     let keeps : Keeps (with′ (c .value .result)) =
     subst (λ slack. Keeps (with′ slack)) (sym (c .value .ensures))
-    (joined-keeps t h limit (c .args .self .now .ordered, c .args .self .now .bounded) (omega (arith, c .args .self .now .bounded .2)) (free .1) fits) in
+    (with-head-keeps t h limit (c .args .self .now .ordered, c .args .self .now .bounded) (omega (arith, c .args .self .now .bounded .2)) (free .1) fits) in
     (keeps .0, (keeps .1, tt))

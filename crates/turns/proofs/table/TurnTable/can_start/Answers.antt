@@ -8,7 +8,7 @@ use Rattle.std.specs.declared.option.Option.the-variants.{None}
 use Rattle.std.proofs.shelf.Tests.{and-left}
 use Rattle.std.proofs.shelf.Ways.{decides-at}
 use Rattle.std.proofs.shelf.Lists.{getD-past, getD-default}
-use Rattle.turns.specs.Tables.{isAdmitted, dismissed}
+use Rattle.turns.specs.Tables.{isAdmitted, withoutHead}
 use Rattle.turns.specs.Counts.{leavesFirst, canStart}
 use Rattle.turns.proofs.Choice.{can-start-decides}
 use Rattle.turns.proofs.table.TurnTable.can_start.Needs as need
@@ -19,7 +19,7 @@ returns-then-head-gt13 c =
     let t = table .heads in
     let h = c .args .head in
     let out : isAdmitted t h ≡ false = ap isSome (getD-past t h None (omega (arith, table .bounded .2))) in
-    decides-at false (canStart t h) (sym (and-left (isAdmitted t h) (leavesFirst (dismissed t h) 14) out)) (can-start-decides t h (table .ordered, table .bounded))
+    decides-at false (canStart t h) (sym (and-left (isAdmitted t h) (leavesFirst (withoutHead t h) 14) out)) (can-start-decides t h (table .ordered, table .bounded))
 
 pub returns-then-is-none : need.returns-then-is-none
 returns-then-is-none c =
@@ -28,7 +28,7 @@ returns-then-is-none c =
     let h = c .args .head in
     let here : h < length t = omega (arith, table .bounded .2) in
     let out : isAdmitted t h ≡ false = ap isSome (getD-default t h None (c .index-others-head .result) here) ∙ c .if-is-none .ensures tt in
-    decides-at false (canStart t h) (sym (and-left (isAdmitted t h) (leavesFirst (dismissed t h) 14) out)) (can-start-decides t h (table .ordered, table .bounded))
+    decides-at false (canStart t h) (sym (and-left (isAdmitted t h) (leavesFirst (withoutHead t h) 14) out)) (can-start-decides t h (table .ordered, table .bounded))
 
 pub returns : need.returns
 returns c =
@@ -38,5 +38,5 @@ returns c =
     let here : h < length t = omega (arith, table .bounded .2) in
     let in′ : isAdmitted t h ≡ true = ap isSome (getD-default t h None (c .index-others-head .result) here) ∙ c .if-is-none .ensures tt in
     decides-at (c .leaves-first .result) (canStart t h)
-    (c .leaves-first .ensures ∙ sym (ap (λ b. b && leavesFirst (dismissed t h) 14) in′))
+    (c .leaves-first .ensures ∙ sym (ap (λ b. b && leavesFirst (withoutHead t h) 14) in′))
     (can-start-decides t h (table .ordered, table .bounded))

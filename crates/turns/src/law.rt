@@ -1,0 +1,25 @@
+// What is proved of turns as a whole, each theorem as the contract of a call that does nothing else.
+ghost use Rattle.turns.specs.Counts.{CountsDecideOrders};
+ghost use Rattle.turns.specs.Choice.{ChosenIsComputed};
+ghost use Rattle.turns.specs.Runs.{TurnsKeepTheirLaw};
+ghost use Rattle.turns.specs.Worked.{WorkedCases};
+
+// Some order keeps every head within its slack exactly if the counts of small slacks allow it, and some such order
+// starts with a head exactly if the counts of the others leave it the first place. So the head chosen by counts is the
+// one that the words of orders name.
+pub fn counts_decide_orders()
+    ensures orders { λ _. ⌜ CountsDecideOrders ⌝ }
+    ensures choice { λ _. ⌜ ChosenIsComputed ⌝ }
+{}
+
+// At every moment of every run: any L slots opened in a row while a head of limit L stays admitted include one for it,
+// and a wish is passed over exactly if no order within the slacks starts with it.
+pub fn turns_keep_their_law()
+    ensures { λ _. ⌜ TurnsKeepTheirLaw ⌝ }
+{}
+
+// Limits 3 3 3 with the wishes 0 0 1 2 1 serve 0, 1, 2, 0, 1. Limits 2 and 4 are admitted, and a third head of any
+// limit is refused with 15.
+pub fn worked_cases()
+    ensures { λ _. ⌜ WorkedCases ⌝ }
+{}
