@@ -11,15 +11,15 @@ use Rattle.std.specs.shelf.Lists.{countBy}
 use Rattle.std.specs.Options.{isSome}
 use Rattle.std.specs.declared.option.Option.{Option}
 use Rattle.std.specs.declared.option.Option.the-variants.{Some, None}
-use Rattle.std.proofs.shelf.Tests.{false≢true, leb-true, leb-false, le-leb, lt-leb, and-parts, and-from, cases-bool, cases-eq, cases-lt}
+use Rattle.std.proofs.shelf.Tests.{false≢true, eqb-true, eq-eqb, leb-true, leb-false, le-leb, lt-leb, and-parts, and-from, cases-bool, cases-eq, cases-lt}
 use Rattle.std.proofs.shelf.Lists.{getD-set-same, getD-set-other, getD-past, length-map, set-past}
-use Rattle.std.proofs.shelf.Sums.{sumBy-set}
+use Rattle.std.proofs.shelf.Sums.{sumBy-set, getD-le-sumBy}
 use Rattle.turns.specs.declared.turn.Turn.{Turn}
-use Rattle.turns.specs.Tables.{Table, turnOf, isAdmitted, limitIn, limitOf, slackIn, headCount, withoutHead}
+use Rattle.turns.specs.Tables.{Table, turnOf, isAdmitted, limitIn, limitOf, slackIn, headCount, isEmpty, withoutHead}
 use Rattle.turns.specs.Orders.{limitsAllow, fitsLimits}
 use Rattle.turns.specs.Counts.{slackWithin, headsWithin}
 use Rattle.turns.specs.Calls.{lowered, restored, served}
-use Rattle.turns.proofs.Lists.{one, count-cons, count-le}
+use Rattle.turns.proofs.Lists.{one, count-cons, count-no, count-le}
 use Rattle.turns.proofs.Counting.{turn-without, turn-others}
 
 pub inside : (t : Table) (h : ℕ) → isAdmitted t h ≡ true → h < length t
@@ -160,3 +160,29 @@ fits-each t = limits-each (headCount t) t
 
 pub each-fits : (t : Table) → ((h : ℕ) → isAdmitted t h ≡ true → headCount t ≤ limitOf t h) → fitsLimits t ≡ true
 each-fits t = each-limits (headCount t) t
+
+-- ---- no head, one head at a time
+pub empty-each : (t : Table) → isEmpty t ≡ true → (h : ℕ) → isAdmitted t h ≡ false
+empty-each t none h =
+    ⊎-elim
+    (λ lt.
+    ⊎-elim
+    (λ in′.
+    absurd
+    (omega (
+      arith,
+      eqb-true (headCount t) 0 none,
+      getD-le-sumBy (λ e. one (isSome e)) t h None lt,
+      ap one in′,
+    )))
+    (λ out. out)
+    (cases-bool (isAdmitted t h)))
+    (λ ge. ap isSome (getD-past t h None ge))
+    (cases-lt h (length t))
+
+pub each-empty : (t : Table) → ((h : ℕ) → isAdmitted t h ≡ false) → isEmpty t ≡ true
+each-empty t none = eq-eqb (headCount t) 0 (no-count t none)
+  where
+    no-count : (t : Table) → ((h : ℕ) → isAdmitted t h ≡ false) → headCount t ≡ 0
+    no-count [] none = refl
+    no-count (place ∷ t) none = count-no isSome place t (none 0) ∙ no-count t (λ h. none (suc h))

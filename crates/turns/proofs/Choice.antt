@@ -12,18 +12,18 @@ use Rattle.std.specs.Options.{isSome, mapped}
 use Rattle.std.specs.Orderings.{Decides}
 use Rattle.std.specs.declared.option.Option.{Option}
 use Rattle.std.specs.declared.option.Option.the-variants.{Some, None}
-use Rattle.std.proofs.shelf.Tests.{false≢true, not-false, ltb-true, ltb-false, lt-leb, cases-bool, cases-lt, cases-order, cond-true, cond-false}
+use Rattle.std.proofs.shelf.Tests.{false≢true, not-true, not-false, ltb-true, ltb-false, lt-leb, cases-bool, cases-lt, cases-order, cond-true, cond-false}
 use Rattle.std.proofs.shelf.Ways.{decides-and, decides-like}
 use Rattle.std.proofs.shelf.Lists.{getD-past, length-set}
 use Rattle.std.proofs.shelf.Sums.{countBy-le-length}
 use Rattle.turns.specs.declared.turn.Turn.{Turn}
-use Rattle.turns.specs.Tables.{Table, turnOf, isAdmitted, slackIn, slackOf, NoHead, withoutHead}
+use Rattle.turns.specs.Tables.{Table, turnOf, isAdmitted, slackIn, slackOf, isEmpty, withoutHead}
 use Rattle.turns.specs.Orders.{SomeOrder, SomeOrderFrom, Bounded}
 use Rattle.turns.specs.Counts.{slackWithin, headsWithin, OrderCounts, StartCounts, leavesFirst, canStart}
 use Rattle.turns.specs.Choice.{Smallest, TurnOf, Chosen, smaller, smallestFrom, smallestSlack, chosen, ChosenIsComputed}
 use Rattle.turns.proofs.Lists.{one, count-yes, count-no}
 use Rattle.turns.proofs.Counting.{counts-decide-orders, leaves-first-decides}
-use Rattle.turns.proofs.Changes.{inside, count-without-head, slack-within}
+use Rattle.turns.proofs.Changes.{inside, empty-each, each-empty, count-without-head, slack-within}
 use Rattle.turns.proofs.Invariant.{Keeps, counts-of, slack-positive}
 
 -- ---- the search for the smallest slack: the best of the places below i, with its slack
@@ -87,12 +87,12 @@ best-from t i found (place ∷ rest) same best =
     (best-more t i found place (ap (turnOf t) (sym (add-zero i)) ∙ same 0) best))
 
 abbrev pub SmallestOf : Table → Option ℕ → Type 0
-SmallestOf t None = NoHead t
+SmallestOf t None = isEmpty t ≡ true
 SmallestOf t (Some h) = Smallest t h
 
 best-all : (t : Table) (i : ℕ) (found : Option (ℕ × ℕ)) → length t ≤ i → BestBelow t i found → SmallestOf t (mapped (λ best. best .0) found)
 best-all t i None all none =
-    λ h. ⊎-elim (λ lt. none h (omega arith)) (λ ge. rw (getD-past t h None ge)) (cases-lt h (length t))
+    each-empty t (λ h. ⊎-elim (λ lt. none h (omega arith)) (λ ge. rw (getD-past t h None ge)) (cases-lt h (length t)))
 best-all t i (Some best) all (lt, in′, has, small, low) = record {
   admitted = in′;
   smallest = λ g a. omega (arith, small g (omega (arith, inside t g a)) a);
@@ -104,15 +104,16 @@ smallest-right t =
     best-all t (0 + length t) (smallestFrom None 0 t) (omega arith)
     (best-from t 0 None t (λ j. ap (turnOf t) (zero-add j)) (λ g lt. absurd (omega arith)))
 
-pub no-head-decides : (t : Table) (r : Bool) → isSome (smallestSlack t) ≡ not r → Decides r (NoHead t)
-no-head-decides t r is = from (smallestSlack t) (smallest-right t) r is
+pub is-empty-computed : (t : Table) (r : Bool) → isSome (smallestSlack t) ≡ not r → r ≡ isEmpty t
+is-empty-computed t r is = from (smallestSlack t) (smallest-right t) is
   where
-    from : (found : Option ℕ) → SmallestOf t found → (r : Bool) → isSome found ≡ not r → Decides r (NoHead t)
-    from None none r is = (λ e. none, λ _. not-false r (sym is))
-    from (Some h) least r is = (
-      λ e. absurd (false≢true (sym (ap not e) ∙ sym is)),
-      λ none. absurd (false≢true (sym (none h) ∙ least .admitted)),
-    )
+    from : (found : Option ℕ) → SmallestOf t found → isSome found ≡ not r → r ≡ isEmpty t
+    from None none is = not-false r (sym is) ∙ sym none
+    from (Some h) least is =
+        ⊎-elim
+        (λ e. absurd (false≢true (sym (empty-each t e h) ∙ least .admitted)))
+        (λ e. not-true r (sym is) ∙ sym e)
+        (cases-bool (isEmpty t))
 
 smallest-unique : (t : Table) (h g : ℕ) → Smallest t h → Smallest t g → h ≡ g
 smallest-unique t h g first second =
@@ -184,9 +185,9 @@ module _ (t : Table) (wish : ℕ) (keeps : Keeps t) where
   chosen-unique : (r s : Option ℕ) → Chosen t wish r → Chosen t wish s → r ≡ s
   chosen-unique None None first second = refl
   chosen-unique None (Some g) first second =
-      absurd (false≢true (sym (first g) ∙ counts-decide-orders .starts t g .0 (second .starts) .0))
+      absurd (false≢true (sym (empty-each t first g) ∙ counts-decide-orders .starts t g .0 (second .starts) .0))
   chosen-unique (Some h) None first second =
-      absurd (false≢true (sym (second h) ∙ counts-decide-orders .starts t h .0 (first .starts) .0))
+      absurd (false≢true (sym (empty-each t second h) ∙ counts-decide-orders .starts t h .0 (first .starts) .0))
   chosen-unique (Some h) (Some g) first second =
       let test = can-start-decides t wish keeps in
       ⊎-elim

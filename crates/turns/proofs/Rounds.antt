@@ -19,7 +19,7 @@ use Rattle.turns.specs.Calls.{served, lowered, restored, afterSlot, afterAdmis
 use Rattle.turns.specs.Runs.{Call, admit, dismiss, dismissAll, serve, afterCall, afterCalls, slotOf, withSlot, slots, StaysAdmitted, EveryHeadGetsItsTurn, WishesAreGrantedIfPossible, TurnsKeepTheirLaw}
 use Rattle.turns.proofs.Lists.{times-own, count-no}
 use Rattle.turns.proofs.Counting.{counts-decide-orders, turn-without, turn-others}
-use Rattle.turns.proofs.Changes.{turn-lowered, slack-lowered}
+use Rattle.turns.proofs.Changes.{empty-each, turn-lowered, slack-lowered}
 use Rattle.turns.proofs.Invariant.{Keeps, counts-of, slack-positive, not-in-empty, empty-keeps, without-head-keeps, with-head-keeps, served-keeps}
 use Rattle.turns.proofs.Choice.{chosen-right}
 use Rattle.turns.proofs.Outcomes.{after-admission, after-dismissal}
@@ -135,7 +135,7 @@ wishes-are-granted t keeps =
     grant : (wish : ℕ) (slot : Option ℕ) → Chosen t wish slot → (slot ≡ Some wish → SomeOrderFrom t wish) × (SomeOrderFrom t wish → slot ≡ Some wish)
     grant wish None none = (
       λ e. absurd (false≢true (ap isSome e)),
-      λ starts. absurd (false≢true (sym (none wish) ∙ counts-decide-orders .starts t wish .0 starts .0)),
+      λ starts. absurd (false≢true (sym (empty-each t none wish) ∙ counts-decide-orders .starts t wish .0 starts .0)),
     )
     grant wish (Some h) turn = (
       λ e. let same : h ≡ wish = cc in subst (SomeOrderFrom t) same (turn .starts),

@@ -18,7 +18,7 @@ use Rattle.std.specs.Options.{mapped}
 use Rattle.std.specs.declared.option.Option.{Option}
 use Rattle.std.specs.declared.option.Option.the-variants.{Some, None}
 use Rattle.turns.specs.declared.turn.Turn.{Turn}
-use Rattle.turns.specs.Tables.{Table, isAdmitted, slackOf, NoHead}
+use Rattle.turns.specs.Tables.{Table, isAdmitted, slackOf, isEmpty}
 use Rattle.turns.specs.Orders.{SomeOrder, SomeOrderFrom, Bounded}
 use Rattle.turns.specs.Counts.{canStart}
 
@@ -34,7 +34,7 @@ pub record TurnOf (t : Table) (wish h : ℕ) : Type 0 where
   pub otherwise : (SomeOrderFrom t wish → ⊥) → Smallest t h
 
 abbrev pub Chosen : Table → ℕ → Option ℕ → Type 0
-Chosen t wish None = NoHead t
+Chosen t wish None = isEmpty t ≡ true
 Chosen t wish (Some h) = TurnOf t wish h
 
 -- ---- computed

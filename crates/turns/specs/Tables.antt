@@ -6,16 +6,16 @@
 --   limitOf t h       the limit of head h, 0 if it is not admitted
 --   slackOf t h       the slack of head h, 0 if it is not admitted
 --   headCount t       how many heads are admitted
---   NoHead t          no head is admitted
+--   isEmpty t         whether no head is admitted
 --   emptyTable        the table with a place for each of 14 heads, none of them admitted
 --   withHead t h l    t with head h admitted, its slack at its limit l
 --   withoutHead t h   t with head h dismissed
 --
 -- Assumes nothing.
-use mathlib.Core.Path.{_≡_}
-use mathlib.Core.Bool.{Bool, false}
+use mathlib.Core.Bool.{Bool}
 use mathlib.Core.List.{List}
 use Prim.Native.Nat.{ℕ}
+use lib.Dec.{eqb}
 use lib.ListN.{getD, set, replicate}
 use Rattle.std.specs.shelf.Lists.{countBy}
 use Rattle.std.specs.Options.{isSome}
@@ -51,8 +51,8 @@ slackOf t h = slackIn (turnOf t h)
 abbrev pub headCount : Table → ℕ
 headCount t = countBy isSome t
 
-abbrev pub NoHead : Table → Type 0
-NoHead t = (h : ℕ) → isAdmitted t h ≡ false
+abbrev pub isEmpty : Table → Bool
+isEmpty t = eqb (headCount t) 0
 
 abbrev pub emptyTable : Table
 emptyTable = replicate 14 None

@@ -1,7 +1,7 @@
 // The turn table: which heads are admitted, and whose turn it is.
 ghost use mathlib.Core.Path.{_≡_};
 ghost use Rattle.std.specs.Orderings.{Decides};
-ghost use Rattle.turns.specs.Tables.{NoHead, emptyTable};
+ghost use Rattle.turns.specs.Tables.{isEmpty, emptyTable};
 ghost use Rattle.turns.specs.Orders.{SomeOrder, SomeOrderFrom, Bounded};
 ghost use Rattle.turns.specs.Choice.{Chosen, chosen};
 ghost use Rattle.turns.specs.Calls.{numberAnswer, admissionAnswer, afterAdmission, dismissalAnswer, afterDismissal, afterServing};
@@ -87,7 +87,7 @@ impl TurnTable {
 
     // Whether no head is admitted.
     pub fn is_empty(&self) -> bool
-        ensures { λ r. ⌜ Decides r (NoHead (now (self .entry) .heads)) ⌝ }
+        ensures { λ r. ⌜ r ≡ isEmpty (now (self .entry) .heads) ⌝ }
     {
         smallest_slack(&self.heads).is_none()
     }
@@ -107,8 +107,8 @@ impl TurnTable {
         leaves_first(&others)
     }
 
-    // The head that a slot with this wish would be opened for.
-    pub fn choose(&self, wish: u8) -> Option<u8>
+    // The head that a slot with this wish is opened for.
+    fn choose(&self, wish: u8) -> Option<u8>
         ensures turn { λ r. ⌜ Chosen (now (self .entry) .heads) wish r ⌝ }
         ensures computed { λ r. ⌜ r ≡ chosen (now (self .entry) .heads) wish ⌝ }
     {
