@@ -1,12 +1,12 @@
 -- The computed choice is the one that the words of orders name. Assumes nothing.
 use mathlib.Core.Path.{_≡_, refl, sym, ap, subst, _∙_}
-use mathlib.Core.Bool.{Bool, true, false, cond, not}
+use mathlib.Core.Bool.{Bool, true, false, not}
 use mathlib.Core.Logic.{⊎-elim}
-use mathlib.Core.List.{List, [], _∷_}
-use Prim.Native.Nat.{ℕ, zero, suc, _+_, _≤_, _<_}
+use mathlib.Core.List.{[], _∷_}
+use Prim.Native.Nat.{ℕ, suc, _+_, _≤_, _<_}
 use native.Mathlib.Nat.{add-zero, zero-add}
 use native.Mathlib.Omega.{arith}
-use lib.Dec.{leb, ltb}
+use lib.Dec.{ltb}
 use lib.ListN.{length}
 use Rattle.std.specs.Options.{isSome, mapped}
 use Rattle.std.specs.Orderings.{Decides}
@@ -18,10 +18,10 @@ use Rattle.std.proofs.shelf.Lists.{getD-past, length-set}
 use Rattle.std.proofs.shelf.Sums.{countBy-le-length}
 use Rattle.turns.specs.declared.turn.Turn.{Turn}
 use Rattle.turns.specs.Tables.{Table, turnOf, isAdmitted, slackIn, slackOf, isEmpty, withoutHead}
-use Rattle.turns.specs.Orders.{SomeOrder, SomeOrderFrom, Bounded}
-use Rattle.turns.specs.Counts.{slackWithin, headsWithin, OrderCounts, StartCounts, leavesFirst, canStart}
-use Rattle.turns.specs.Choice.{Smallest, TurnOf, Chosen, smaller, smallestFrom, smallestSlack, chosen, ChosenIsComputed}
-use Rattle.turns.proofs.Lists.{one, count-yes, count-no}
+use Rattle.turns.specs.Orders.{SomeOrderFrom}
+use Rattle.turns.specs.Counts.{slackWithin, headsWithin, OrderCounts, leavesFirst, canStart}
+use Rattle.turns.specs.Choice.{Smallest, Chosen, smaller, smallestFrom, smallestSlack, chosen, ChosenIsComputed}
+use Rattle.turns.proofs.Lists.{one, count-no}
 use Rattle.turns.proofs.Counting.{counts-decide-orders, leaves-first-decides}
 use Rattle.turns.proofs.Changes.{inside, empty-each, each-empty, count-without-head, slack-within}
 use Rattle.turns.proofs.Invariant.{Keeps, counts-of, slack-positive}

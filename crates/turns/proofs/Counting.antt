@@ -1,6 +1,6 @@
 -- An order within the slacks exists exactly if the counts of small slacks allow it. Assumes nothing.
 use mathlib.Core.Path.{_≡_, refl, sym, ap, subst, _∙_}
-use mathlib.Core.Bool.{Bool, true, false, cond}
+use mathlib.Core.Bool.{Bool, true, cond}
 use mathlib.Core.Logic.{⊎-elim}
 use mathlib.Core.List.{List, [], _∷_}
 use Prim.Native.Nat.{ℕ, zero, suc, _+_, _-_, _*_, _/_, _≤_, _<_}
@@ -18,8 +18,8 @@ use Rattle.std.proofs.shelf.Ways.{decides-below-and}
 use Rattle.std.proofs.shelf.Lists.{getD-set-same, getD-set-other, getD-past, length-set}
 use Rattle.turns.specs.declared.turn.Turn.{Turn}
 use Rattle.turns.specs.Tables.{Table, turnOf, isAdmitted, slackIn, slackOf, withoutHead}
-use Rattle.turns.specs.Orders.{times, Order, WithinSlacks, SomeOrder, SomeOrderFrom}
-use Rattle.turns.specs.Counts.{slackWithin, headsWithin, OrderCounts, StartCounts, CountsDecideOrders, leavesFirst}
+use Rattle.turns.specs.Orders.{times, Order, WithinSlacks, SomeOrderFrom}
+use Rattle.turns.specs.Counts.{slackWithin, headsWithin, StartCounts, CountsDecideOrders, leavesFirst}
 use Rattle.turns.proofs.Lists.{one, count-cons, count-yes, count-no, count-le, count-early, times-own, times-here, same-count, sort, count-sort, sorted-sort, sorted-place}
 
 -- ---- the admitted heads, lowest number first, where the first place of the table is head i's

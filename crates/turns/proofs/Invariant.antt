@@ -1,13 +1,13 @@
 -- Every call keeps an order within the slacks in being. Assumes nothing.
 use mathlib.Core.Path.{_≡_, refl, sym, ap, subst, _∙_}
-use mathlib.Core.Bool.{Bool, true, false, cond}
+use mathlib.Core.Bool.{true, false}
 use mathlib.Core.Logic.{⊎-elim, ∥∥₁-elim}
 use mathlib.Core.List.{map}
-use Prim.Native.Nat.{ℕ, zero, suc, _+_, _≤_, _<_}
+use Prim.Native.Nat.{ℕ, zero, suc, _≤_, _<_}
 use native.Mathlib.Omega.{arith}
 use native.Mathlib.Bridge.{le-prop}
 use lib.Dec.{leb}
-use lib.ListN.{length, set, replicate}
+use lib.ListN.{length, replicate}
 use Rattle.std.specs.Options.{isSome}
 use Rattle.std.specs.declared.option.Option.{Option}
 use Rattle.std.specs.declared.option.Option.the-variants.{Some, None}
@@ -15,9 +15,9 @@ use Rattle.std.proofs.shelf.Tests.{false≢true, leb-true, cases-bool, cases-lt
 use Rattle.std.proofs.shelf.Lists.{getD-set-same, length-set, length-map}
 use Rattle.turns.specs.declared.limit.Limit.{Limit}
 use Rattle.turns.specs.declared.turn.Turn.{Turn}
-use Rattle.turns.specs.Tables.{Table, turnOf, isAdmitted, limitIn, limitOf, slackIn, slackOf, headCount, emptyTable, withoutHead, withHead}
+use Rattle.turns.specs.Tables.{Table, turnOf, isAdmitted, limitIn, slackIn, slackOf, headCount, emptyTable, withoutHead, withHead}
 use Rattle.turns.specs.Orders.{SomeOrder, fitsLimits, Bounded}
-use Rattle.turns.specs.Counts.{slackWithin, headsWithin, OrderCounts, StartCounts}
+use Rattle.turns.specs.Counts.{slackWithin, OrderCounts, StartCounts}
 use Rattle.turns.specs.Calls.{served, lowered, restored}
 use Rattle.turns.proofs.Lists.{one}
 use Rattle.turns.proofs.Counting.{counts-decide-orders}

@@ -1,38 +1,40 @@
 -- What an accepted call tells, and what holds after a call whether it was accepted or refused. Assumes nothing.
-use mathlib.Core.Path.{_≡_, refl, sym, ap, _∙_}
-use mathlib.Core.Bool.{Bool, true, false, cond}
-use mathlib.Core.Logic.{⊎-elim}
+use mathlib.Core.Path.{_≡_, refl, ap}
+use mathlib.Core.Bool.{true, false, cond}
 use Prim.Native.Nat.{ℕ, _≤_}
 use lib.Dec.{ltb}
 use Rattle.std.specs.Results.{isOk}
 use Rattle.std.specs.declared.result.Result.{Result}
 use Rattle.std.specs.declared.result.Result.the-variants.{Ok, Err}
-use Rattle.std.proofs.shelf.Tests.{true≢false, ltb-false, cases-bool, cond-true, cond-false, cond-both}
+use Rattle.std.proofs.shelf.Tests.{false≢true, ltb-false, cond-both}
 use Rattle.turns.specs.declared.limit.Limit.{Limit}
 use Rattle.turns.specs.declared.fault.AdmissionFault.{AdmissionFault}
 use Rattle.turns.specs.declared.fault.AdmissionFault.the-variants as admission
 use Rattle.turns.specs.declared.fault.DismissalFault.the-variants as dismissal
 use Rattle.turns.specs.Tables.{Table, isAdmitted, withoutHead, withHead}
 use Rattle.turns.specs.Orders.{fitsLimits}
-use Rattle.turns.specs.Calls.{andThen, ifAccepted, numberAnswer, afterAdmission, afterDismissal}
+use Rattle.turns.specs.Calls.{andThen, ifAccepted, numberAnswer, admissionAnswer, afterAdmission, afterDismissal}
 
-pub number-accepted : (t : Table) (h : ℕ) (done : Unit {0}) → Ok done ≡ numberAnswer t h → (h ≤ 13) × (isAdmitted t h ≡ false)
-number-accepted t h done e =
-    let answer : Result (Unit {0}) AdmissionFault = cond (isAdmitted t h) (Err admission.AdmittedAlready) (Ok tt) in
-    ⊎-elim
-    (λ over. absurd (true≢false (ap isOk (e ∙ cond-true (ltb 13 h) (Err admission.NumberOver13) answer over))))
+pub number-accepted : (t : Table) (h : ℕ) → isOk (numberAnswer t h) ≡ true → (h ≤ 13) × (isAdmitted t h ≡ false)
+number-accepted t h =
+    cond-both (ltb 13 h) (Err admission.NumberOver13) (cond (isAdmitted t h) (Err admission.AdmittedAlready) (Ok tt))
+    (λ r. isOk r ≡ true → (h ≤ 13) × (isAdmitted t h ≡ false))
+    (λ over e. absurd (false≢true e))
     (λ low.
-    ⊎-elim
-    (λ in′.
-    absurd
-    (true≢false
-    (ap isOk
-    (e
-    ∙ cond-false (ltb 13 h) (Err admission.NumberOver13) answer low
-    ∙ cond-true (isAdmitted t h) (Err admission.AdmittedAlready) (Ok tt) in′))))
-    (λ out. (ltb-false 13 h low, out))
-    (cases-bool (isAdmitted t h)))
-    (cases-bool (ltb 13 h))
+    cond-both (isAdmitted t h) (Err admission.AdmittedAlready) (Ok tt)
+    (λ r. isOk r ≡ true → (h ≤ 13) × (isAdmitted t h ≡ false))
+    (λ in′ e. absurd (false≢true e))
+    (λ out e. (ltb-false 13 h low, out)))
+
+pub admission-accepted : (t : Table) (h : ℕ) (l : Limit) → admissionAnswer t h l ≡ Ok tt → h ≤ 13
+admission-accepted t h l e = number-accepted t h (first-accepted (numberAnswer t h) (ap isOk e)) .0
+  where
+    last : Result (Unit {0}) AdmissionFault
+    last = cond (fitsLimits (withHead t h l)) (Ok tt) (Err admission.Outnumbered)
+
+    first-accepted : (r : Result (Unit {0}) AdmissionFault) → isOk (andThen r last) ≡ true → isOk r ≡ true
+    first-accepted (Ok done) e = refl
+    first-accepted (Err fault) e = e
 
 module _ (P : Table → Type 0) (t : Table) (h : ℕ) (before : P t) where
   pub after-admission : (l : Limit) → (h ≤ 13 → isAdmitted t h ≡ false → fitsLimits (withHead t h l) ≡ true → P (withHead t h l)) → P (afterAdmission t h l)

@@ -5,26 +5,28 @@
 --   afterCalls t calls           the table after a list of calls, first to last
 --   slots t calls                the heads that slots were opened for, first to last
 --   StaysAdmitted h t calls      head h is admitted in t and after every call
---   EveryHeadGetsItsTurn t       after t, any L slots opened in a row while a head of limit L stays admitted include one
---                                for it
---   WishesAreGrantedIfPossible t a wish is granted in t exactly if some order within the slacks starts with it, so it is
+--   TurnOrAdmission h t call     the call opens a slot for head h, or admits it
+--   SlacksCountSlots t           a head's slack is its limit less the slots opened since its last turn or its admission
+--   EveryHeadGetsItsTurn t       any L slots opened in a row while a head of limit L stays admitted include one for it
+--   WishesAreGranted t           a wish is granted exactly if some order within the slacks starts with it, so it is
 --                                passed over exactly if no such order does
---   TurnsKeepTheirLaw            both, at every moment of every run that starts with the empty table
+--   TurnsKeepTheirLaw            these three, at every moment of every run that starts with the empty table
 --
 -- Assumes nothing.
 use mathlib.Core.Path.{_≡_}
 use mathlib.Core.Bool.{true}
 use mathlib.Core.List.{List, [], _∷_}
 use mathlib.Core.Logic.{_↔_}
-use Prim.Native.Nat.{ℕ, _≤_}
+use Prim.Native.Nat.{ℕ, _+_, _≤_}
 use lib.ListN.{length}
 use Rattle.std.specs.declared.option.Option.{Option}
 use Rattle.std.specs.declared.option.Option.the-variants.{Some, None}
+use Rattle.std.specs.declared.result.Result.the-variants.{Ok}
 use Rattle.turns.specs.declared.limit.Limit.{Limit}
-use Rattle.turns.specs.Tables.{Table, isAdmitted, limitOf, emptyTable}
+use Rattle.turns.specs.Tables.{Table, isAdmitted, limitOf, slackOf, emptyTable}
 use Rattle.turns.specs.Orders.{times, SomeOrderFrom}
 use Rattle.turns.specs.Choice.{chosen}
-use Rattle.turns.specs.Calls.{afterAdmission, afterDismissal, afterServing}
+use Rattle.turns.specs.Calls.{admissionAnswer, afterAdmission, afterDismissal, afterServing}
 
 -- a number and a wish are any number, also one that is no head's
 pub data Call : Type 0 where
@@ -63,6 +65,23 @@ abbrev pub StaysAdmitted : ℕ → Table → List Call → Type 0
 StaysAdmitted h t [] = isAdmitted t h ≡ true
 StaysAdmitted h t (call ∷ calls) = (isAdmitted t h ≡ true) × StaysAdmitted h (afterCall t call) calls
 
+-- ---- the slacks, as they are meant
+abbrev pub TurnOrAdmission : ℕ → Table → Call → Type 0
+TurnOrAdmission h t (admit number l) = (number ≡ h) × (admissionAnswer t number l ≡ Ok tt)
+TurnOrAdmission h t (dismiss number) = ⊥
+TurnOrAdmission h t dismissAll = ⊥
+TurnOrAdmission h t (serve wish) = chosen t wish ≡ Some h
+
+-- `last` is the head's last turn or its admission, and `since` what was called after it
+abbrev pub SlacksCountSlots : Table → Type 0
+SlacksCountSlots t =
+    (last : Call) (since : List Call) (h : ℕ) →
+    TurnOrAdmission h t last →
+    StaysAdmitted h (afterCall t last) since →
+    times h (slots (afterCall t last) since) ≡ 0 →
+    slackOf (afterCalls t (last ∷ since)) h + length (slots (afterCall t last) since) ≡ limitOf (afterCalls t (last ∷ since)) h
+
+-- ---- the law
 abbrev pub EveryHeadGetsItsTurn : Table → Type 0
 EveryHeadGetsItsTurn t =
     (calls : List Call) (h : ℕ) →
@@ -74,11 +93,12 @@ EveryHeadGetsItsTurn t =
 abbrev pub Granted : Table → ℕ → Type 0
 Granted t wish = chosen t wish ≡ Some wish
 
-pub record WishesAreGrantedIfPossible (t : Table) : Type 0 where
+pub record WishesAreGranted (t : Table) : Type 0 where
   pub granted : (wish : ℕ) → Granted t wish ↔ SomeOrderFrom t wish
   pub passed-over : (wish : ℕ) → (Granted t wish → ⊥) ↔ (SomeOrderFrom t wish → ⊥)
 
--- `before` is the run so far, and each law speaks of the table that it leaves
+-- `before` is the run so far, and each part speaks of the table that it leaves
 pub record TurnsKeepTheirLaw : Type 0 where
+  pub slacks : (before : List Call) → SlacksCountSlots (afterCalls emptyTable before)
   pub rounds : (before : List Call) → EveryHeadGetsItsTurn (afterCalls emptyTable before)
-  pub wishes : (before : List Call) → WishesAreGrantedIfPossible (afterCalls emptyTable before)
+  pub wishes : (before : List Call) → WishesAreGranted (afterCalls emptyTable before)

@@ -12,8 +12,9 @@ pub fn counts_decide_orders()
     ensures choice { λ _. ⌜ ChosenIsComputed ⌝ }
 {}
 
-// At every moment of every run: any L slots opened in a row while a head of limit L stays admitted include one for it,
-// and a wish is passed over exactly if no order within the slacks starts with it.
+// At every moment of every run: a head's slack is its limit less the slots opened since its last turn or its admission,
+// any L slots opened in a row while a head of limit L stays admitted include one for it, and a wish is passed over
+// exactly if no order within the slacks starts with it.
 pub fn turns_keep_their_law()
     ensures { λ _. ⌜ TurnsKeepTheirLaw ⌝ }
 {}

@@ -1,8 +1,9 @@
-use mathlib.Core.Path.{_≡_, sym, subst, _∙_}
+use mathlib.Core.Path.{_≡_, sym, ap, subst, _∙_}
 use mathlib.Core.Bool.{true}
 use Prim.Native.Nat.{ℕ}
 use native.Mathlib.Omega.{arith}
 use lib.ListN.{set}
+use Rattle.std.specs.Results.{isOk}
 use Rattle.std.specs.declared.option.Option.the-variants.{Some}
 use Rattle.turns.specs.Tables.{Table}
 use Rattle.turns.specs.Orders.{fitsLimits}
@@ -16,7 +17,7 @@ ghost-self c =
     let h = c .args .number in
     let limit = c .args .limit in
     let with′ : ℕ → Table = λ slack. set t h (Some (record { limit = limit; slack = slack })) in
-    let free = number-accepted t h (c .in-Continue-check-number .field-0) (sym (c .in-Continue-check-number .was tt) ∙ c .check-number .ensures) in
+    let free = number-accepted t h (ap isOk (sym (c .check-number .ensures) ∙ c .in-Continue-check-number .was tt)) in
     let fits : fitsLimits (with′ (limit .value)) ≡ true =
     subst (λ slack. fitsLimits (with′ slack) ≡ true) (c .value .ensures) (sym (c .if-not-fits-limits .ensures tt)) in
     let keeps : Keeps (with′ (c .value .result)) =
