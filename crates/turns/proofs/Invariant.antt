@@ -1,51 +1,26 @@
 -- Every call keeps an order within the slacks in being. Assumes nothing.
 use mathlib.Core.Path.{_≡_, refl, sym, ap, subst, _∙_}
 use mathlib.Core.Bool.{true, false}
-use mathlib.Core.Logic.{⊎-elim, ∥∥₁-elim}
+use mathlib.Core.Logic.{⊎-elim}
 use mathlib.Core.List.{map}
 use Prim.Native.Nat.{ℕ, zero, suc, _≤_, _<_}
 use native.Mathlib.Omega.{arith}
-use native.Mathlib.Bridge.{le-prop}
 use lib.Dec.{leb}
 use lib.ListN.{length, replicate}
 use Rattle.std.specs.Options.{isSome}
 use Rattle.std.specs.declared.option.Option.{Option}
 use Rattle.std.specs.declared.option.Option.the-variants.{Some, None}
-use Rattle.std.proofs.shelf.Tests.{false≢true, leb-true, cases-bool, cases-lt}
+use Rattle.std.proofs.shelf.Tests.{false≢true, leb-true, cases-bool}
 use Rattle.std.proofs.shelf.Lists.{getD-set-same, length-set, length-map}
-use Rattle.turns.specs.declared.limit.Limit.{Limit}
-use Rattle.turns.specs.declared.turn.Turn.{Turn}
-use Rattle.turns.specs.Tables.{Table, turnOf, isAdmitted, limitIn, slackIn, slackOf, headCount, emptyTable, withoutHead, withHead}
-use Rattle.turns.specs.Orders.{SomeOrder, fitsLimits, Bounded}
-use Rattle.turns.specs.Counts.{slackWithin, OrderCounts, StartCounts}
-use Rattle.turns.specs.Calls.{served, lowered, restored}
-use Rattle.turns.proofs.Lists.{one}
-use Rattle.turns.proofs.Counting.{counts-decide-orders}
-use Rattle.turns.proofs.Changes.{inside, count-set, at-set, count-without-head, at-without, some-lowered, limit-lowered, slack-lowered, limit-restored, slack-restored, count-served, within-served, at-served, within-le-count, slack-within, fits-each, each-fits}
-
--- what a table that can exist keeps
-abbrev pub Keeps : Table → Type 0
-Keeps t = ∥ SomeOrder t ∥₁ × Bounded t
-
-pub counts-of : (t : Table) → ∥ SomeOrder t ∥₁ → OrderCounts t
-counts-of t order k = ∥∥₁-elim order le-prop (λ o. counts-decide-orders .orders t .0 o k)
-
-order-of : (t : Table) → OrderCounts t → ∥ SomeOrder t ∥₁
-order-of t counts = ∣ counts-decide-orders .orders t .1 counts ∣₁
-
-pub slack-positive : (t : Table) (h : ℕ) → OrderCounts t → isAdmitted t h ≡ true → 1 ≤ slackOf t h
-slack-positive t h counts in′ =
-    ⊎-elim
-    (λ lt.
-    absurd
-    (omega (
-      arith,
-      counts 0,
-      count-without-head (slackWithin 0) refl t h,
-      ap one (slack-within 0 (turnOf t h) in′ (omega arith)),
-    )))
-    (λ ge. ge)
-    (cases-lt (slackOf t h) 1)
+use Rattle.orders.specs.declared.limit.Limit.{Limit}
+use Rattle.orders.specs.declared.turn.Turn.{Turn}
+use Rattle.orders.specs.Tables.{Table, turnOf, isAdmitted, limitIn, slackIn, headCount, emptyTable, withoutHead, withHead}
+use Rattle.orders.specs.Orders.{fitsLimits}
+use Rattle.orders.specs.Counts.{slackWithin, StartCounts}
+use Rattle.orders.specs.Slots.{served, lowered, restored}
+use Rattle.orders.proofs.Lists.{one}
+use Rattle.orders.proofs.Keeps.{Keeps, counts-of, order-of}
+use Rattle.orders.proofs.Changes.{inside, count-set, at-set, count-without-head, at-without, some-lowered, limit-lowered, slack-lowered, limit-restored, slack-restored, count-served, within-served, at-served, within-le-count, fits-each, each-fits}
 
 -- ---- no head
 turn-empty : (n h : ℕ) → turnOf (replicate n None) h ≡ None

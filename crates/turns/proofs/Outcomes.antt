@@ -7,12 +7,12 @@ use Rattle.std.specs.Results.{isOk}
 use Rattle.std.specs.declared.result.Result.{Result}
 use Rattle.std.specs.declared.result.Result.the-variants.{Ok, Err}
 use Rattle.std.proofs.shelf.Tests.{false≢true, ltb-false, cond-both}
-use Rattle.turns.specs.declared.limit.Limit.{Limit}
+use Rattle.orders.specs.declared.limit.Limit.{Limit}
 use Rattle.turns.specs.declared.fault.AdmissionFault.{AdmissionFault}
 use Rattle.turns.specs.declared.fault.AdmissionFault.the-variants as admission
 use Rattle.turns.specs.declared.fault.DismissalFault.the-variants as dismissal
-use Rattle.turns.specs.Tables.{Table, isAdmitted, withoutHead, withHead}
-use Rattle.turns.specs.Orders.{fitsLimits}
+use Rattle.orders.specs.Tables.{Table, isAdmitted, withoutHead, withHead}
+use Rattle.orders.specs.Orders.{fitsLimits}
 use Rattle.turns.specs.Calls.{andThen, ifAccepted, numberAnswer, admissionAnswer, afterAdmission, afterDismissal}
 
 pub number-accepted : (t : Table) (h : ℕ) → isOk (numberAnswer t h) ≡ true → (h ≤ 13) × (isAdmitted t h ≡ false)

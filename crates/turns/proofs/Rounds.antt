@@ -12,17 +12,19 @@ use Rattle.std.specs.declared.option.Option.{Option}
 use Rattle.std.specs.declared.option.Option.the-variants.{Some, None}
 use Rattle.std.proofs.shelf.Tests.{false≢true, cases-eq, cases-lt, ne-eqb}
 use Rattle.std.proofs.shelf.Lists.{getD-set-same, getD-set-other, length-map}
-use Rattle.turns.specs.declared.turn.Turn.{Turn}
-use Rattle.turns.specs.Tables.{Table, turnOf, isAdmitted, limitIn, limitOf, slackIn, slackOf, emptyTable, withHead, withoutHead}
-use Rattle.turns.specs.Orders.{times, SomeOrderFrom}
-use Rattle.turns.specs.Choice.{Chosen, chosen}
-use Rattle.turns.specs.Calls.{ifAccepted, lowered, restored, afterSlot}
+use Rattle.orders.specs.declared.turn.Turn.{Turn}
+use Rattle.orders.specs.Tables.{Table, turnOf, isAdmitted, limitIn, limitOf, slackIn, slackOf, emptyTable, withHead, withoutHead}
+use Rattle.orders.specs.Orders.{times, SomeOrderFrom}
+use Rattle.orders.specs.Choice.{Chosen, chosen}
+use Rattle.orders.specs.Slots.{lowered, restored, afterSlot}
+use Rattle.turns.specs.Calls.{ifAccepted}
 use Rattle.turns.specs.Runs.{Call, admit, dismiss, dismissAll, serve, afterCall, afterCalls, slotOf, withSlot, slots, StaysAdmitted, TurnOrAdmission, SlacksCountSlots, EveryHeadGetsItsTurn, WishesAreGranted, TurnsKeepTheirLaw}
-use Rattle.turns.proofs.Lists.{times-own, count-no}
-use Rattle.turns.proofs.Counting.{counts-decide-orders, turn-without, turn-others}
-use Rattle.turns.proofs.Changes.{inside, turn-lowered, slack-lowered, limit-lowered, slack-restored, limit-restored, empty-each}
-use Rattle.turns.proofs.Invariant.{Keeps, counts-of, slack-positive, not-in-empty, empty-keeps, without-head-keeps, with-head-keeps, served-keeps}
-use Rattle.turns.proofs.Choice.{chosen-right}
+use Rattle.orders.proofs.Lists.{times-own, count-no}
+use Rattle.orders.proofs.Counting.{counts-decide-orders, turn-without, turn-others}
+use Rattle.orders.proofs.Changes.{inside, turn-lowered, slack-lowered, limit-lowered, slack-restored, limit-restored, empty-each}
+use Rattle.orders.proofs.Keeps.{Keeps, counts-of, slack-positive}
+use Rattle.turns.proofs.Invariant.{not-in-empty, empty-keeps, without-head-keeps, with-head-keeps, served-keeps}
+use Rattle.orders.proofs.Choice.{chosen-right}
 use Rattle.turns.proofs.Outcomes.{admission-accepted, after-admission, after-dismissal}
 
 -- ---- every call keeps what a table keeps

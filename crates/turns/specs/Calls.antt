@@ -1,32 +1,24 @@
--- What each call answers and what table it leaves. Which head is served is in `Choice`.
+-- What admission and dismissal answer and what table they leave.
 --
 --   numberAnswer t h         12 if the number is over 13, then 13 if head h is admitted already, else accepted
 --   admissionAnswer t h l    numberAnswer, then 15 if with head h the heads outnumbered some limit, l or an older one
 --   afterAdmission t h l     t with head h, its slack at its limit l, if the admission is accepted, else t
 --   dismissalAnswer t h      12 if the number is over 13, then 16 if head h is not admitted, else accepted
 --   afterDismissal t h       t without head h if the dismissal is accepted, else t
---   served t h               t after a slot for head h: its slack is its limit again, all others fall by one
---   afterServing t wish      t after a slot for the head chosen, t itself if there is no head
 --
 -- Assumes nothing.
 use mathlib.Core.Bool.{cond}
-use mathlib.Core.List.{map}
-use Prim.Native.Nat.{ℕ, _-_}
+use Prim.Native.Nat.{ℕ}
 use lib.Dec.{ltb}
-use lib.ListN.{set}
-use Rattle.std.specs.declared.option.Option.{Option}
-use Rattle.std.specs.declared.option.Option.the-variants.{Some, None}
 use Rattle.std.specs.declared.result.Result.{Result}
 use Rattle.std.specs.declared.result.Result.the-variants.{Ok, Err}
-use Rattle.turns.specs.declared.limit.Limit.{Limit}
-use Rattle.turns.specs.declared.turn.Turn.{Turn}
+use Rattle.orders.specs.declared.limit.Limit.{Limit}
 use Rattle.turns.specs.declared.fault.AdmissionFault.{AdmissionFault}
 use Rattle.turns.specs.declared.fault.AdmissionFault.the-variants as admission
 use Rattle.turns.specs.declared.fault.DismissalFault.{DismissalFault}
 use Rattle.turns.specs.declared.fault.DismissalFault.the-variants as dismissal
-use Rattle.turns.specs.Tables.{Table, turnOf, isAdmitted, withHead, withoutHead}
-use Rattle.turns.specs.Orders.{fitsLimits}
-use Rattle.turns.specs.Choice.{chosen}
+use Rattle.orders.specs.Tables.{Table, isAdmitted, withHead, withoutHead}
+use Rattle.orders.specs.Orders.{fitsLimits}
 
 -- the first answer if it is a refusal, else the second
 abbrev pub andThen : {E : Type 0} → Result (Unit {0}) E → Result (Unit {0}) E → Result (Unit {0}) E
@@ -62,24 +54,3 @@ dismissalAnswer t h =
 
 abbrev pub afterDismissal : Table → ℕ → Table
 afterDismissal t h = ifAccepted (dismissalAnswer t h) (withoutHead t h) t
-
--- ---- a slot
--- a place after a slot for another head
-abbrev pub lowered : Option Turn → Option Turn
-lowered None = None
-lowered (Some turn) = Some (record { limit = turn .limit; slack = turn .slack - 1 })
-
--- a place after a slot for its own head
-abbrev pub restored : Option Turn → Option Turn
-restored None = None
-restored (Some turn) = Some (record { limit = turn .limit; slack = turn .limit .value })
-
-abbrev pub served : Table → ℕ → Table
-served t h = set (map lowered t) h (restored (turnOf t h))
-
-abbrev pub afterSlot : Table → Option ℕ → Table
-afterSlot t None = t
-afterSlot t (Some h) = served t h
-
-abbrev pub afterServing : Table → ℕ → Table
-afterServing t wish = afterSlot t (chosen t wish)

@@ -1,9 +1,4 @@
-pub mod Limits
 pub mod Faults
-pub mod Tables
-pub mod Orders
-pub mod Counts
-pub mod Choice
 pub mod Calls
 pub mod Runs
 pub mod Worked

@@ -22,11 +22,12 @@ use lib.ListN.{length}
 use Rattle.std.specs.declared.option.Option.{Option}
 use Rattle.std.specs.declared.option.Option.the-variants.{Some, None}
 use Rattle.std.specs.declared.result.Result.the-variants.{Ok}
-use Rattle.turns.specs.declared.limit.Limit.{Limit}
-use Rattle.turns.specs.Tables.{Table, isAdmitted, limitOf, slackOf, emptyTable}
-use Rattle.turns.specs.Orders.{times, SomeOrderFrom}
-use Rattle.turns.specs.Choice.{chosen}
-use Rattle.turns.specs.Calls.{admissionAnswer, afterAdmission, afterDismissal, afterServing}
+use Rattle.orders.specs.declared.limit.Limit.{Limit}
+use Rattle.orders.specs.Tables.{Table, isAdmitted, limitOf, slackOf, emptyTable}
+use Rattle.orders.specs.Orders.{times, SomeOrderFrom}
+use Rattle.orders.specs.Choice.{chosen}
+use Rattle.orders.specs.Slots.{afterServing}
+use Rattle.turns.specs.Calls.{admissionAnswer, afterAdmission, afterDismissal}
 
 -- a number and a wish are any number, also one that is no head's
 pub data Call : Type 0 where

@@ -12,10 +12,10 @@ use Prim.Native.Nat.{ℕ, _≤_}
 use lib.Dec.{lit≤}
 use Rattle.std.specs.declared.result.Result.{Result}
 use Rattle.std.specs.declared.result.Result.the-variants.{Ok, Err}
-use Rattle.turns.specs.declared.limit.Limit.{Limit}
+use Rattle.orders.specs.declared.limit.Limit.{Limit}
 use Rattle.turns.specs.declared.fault.AdmissionFault.{AdmissionFault}
 use Rattle.turns.specs.declared.fault.AdmissionFault.the-variants as admission
-use Rattle.turns.specs.Tables.{emptyTable}
+use Rattle.orders.specs.Tables.{emptyTable}
 use Rattle.turns.specs.Calls.{admissionAnswer, afterAdmission}
 use Rattle.turns.specs.Runs.{Call, admit, serve, slots}
 

@@ -1,16 +1,6 @@
 // What is proved of turns as a whole, each theorem as the contract of a call that does nothing else.
-ghost use Rattle.turns.specs.Counts.{CountsDecideOrders};
-ghost use Rattle.turns.specs.Choice.{ChosenIsComputed};
 ghost use Rattle.turns.specs.Runs.{TurnsKeepTheirLaw};
 ghost use Rattle.turns.specs.Worked.{WorkedCases};
-
-// Some order keeps every head within its slack exactly if the counts of small slacks allow it, and some such order
-// starts with a head exactly if the counts of the others leave it the first place. So the head chosen by counts is the
-// one that the words of orders name.
-pub fn counts_decide_orders()
-    ensures orders { λ _. ⌜ CountsDecideOrders ⌝ }
-    ensures choice { λ _. ⌜ ChosenIsComputed ⌝ }
-{}
 
 // At every moment of every run: a head's slack is its limit less the slots opened since its last turn or its admission,
 // any L slots opened in a row while a head of limit L stays admitted include one for it, and a wish is passed over

@@ -1,18 +1,19 @@
 // The turn table: which heads are admitted, and whose turn it is.
 ghost use mathlib.Core.Path.{_≡_};
 ghost use Rattle.std.specs.Orderings.{Decides};
-ghost use Rattle.turns.specs.Tables.{isEmpty, emptyTable};
-ghost use Rattle.turns.specs.Orders.{SomeOrder, SomeOrderFrom, Bounded};
-ghost use Rattle.turns.specs.Choice.{Chosen, chosen};
-ghost use Rattle.turns.specs.Calls.{numberAnswer, admissionAnswer, afterAdmission, dismissalAnswer, afterDismissal, afterServing};
+ghost use Rattle.orders.specs.Tables.{isEmpty, emptyTable};
+ghost use Rattle.orders.specs.Orders.{SomeOrder, SomeOrderFrom, Bounded};
+ghost use Rattle.orders.specs.Choice.{Chosen, chosen};
+ghost use Rattle.turns.specs.Calls.{numberAnswer, admissionAnswer, afterAdmission, dismissalAnswer, afterDismissal};
+ghost use Rattle.orders.specs.Slots.{afterServing};
 use super::fault::AdmissionFault;
 use super::fault::DismissalFault;
-use super::limit::Limit;
-use super::places::after_slot;
-use super::places::fits_limits;
-use super::places::leaves_first;
-use super::places::smallest_slack;
-use super::turn::Turn;
+use orders::limit::Limit;
+use orders::places::after_slot;
+use orders::places::fits_limits;
+use orders::places::leaves_first;
+use orders::places::smallest_slack;
+use orders::turn::Turn;
 
 #[derive(Drop)]
 pub struct TurnTable {
@@ -126,7 +127,7 @@ impl TurnTable {
     {
         let chosen = self.choose(wish);
         if let Some(head) = chosen {
-            self.heads = after_slot(&self.heads, head as usize);
+            self.heads = after_slot(&self.heads, head);
         }
         chosen
     }

@@ -1,6 +1,7 @@
 // Runs of the turn table on examples: what it prints, and the worked listing by the code itself.
 #[cfg(test)]
 mod tests {
+    use orders::limit::Limit;
     use std::test::*;
     use turns::fault::AdmissionFault;
     use turns::fault::AdmissionFaultDebug;
@@ -10,7 +11,6 @@ mod tests {
     use turns::fault::DismissalFaultDebug;
     use turns::fault::DismissalFaultDisplay;
     use turns::fault::DismissalFaultPartialEq;
-    use turns::limit::Limit;
     use turns::table::TurnTable;
 
     // Admits heads 0, 1, .. with these limits.

@@ -1,5 +1,5 @@
 use mathlib.Core.Path.{refl}
-use Rattle.turns.specs.Counts.{leavesFirst}
+use Rattle.orders.specs.Counts.{leavesFirst}
 use Rattle.turns.proofs.law.worked_cases.Needs as need
 
 pub returns : need.returns

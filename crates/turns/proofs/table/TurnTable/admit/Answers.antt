@@ -5,9 +5,10 @@ use native.Mathlib.Omega.{arith}
 use lib.ListN.{set}
 use Rattle.std.specs.Results.{isOk}
 use Rattle.std.specs.declared.option.Option.the-variants.{Some}
-use Rattle.turns.specs.Tables.{Table}
-use Rattle.turns.specs.Orders.{fitsLimits}
-use Rattle.turns.proofs.Invariant.{Keeps, with-head-keeps}
+use Rattle.orders.specs.Tables.{Table}
+use Rattle.orders.specs.Orders.{fitsLimits}
+use Rattle.orders.proofs.Keeps.{Keeps}
+use Rattle.turns.proofs.Invariant.{with-head-keeps}
 use Rattle.turns.proofs.Outcomes.{number-accepted}
 use Rattle.turns.proofs.table.TurnTable.admit.Needs as need
 

@@ -8,9 +8,9 @@ use Rattle.std.specs.declared.option.Option.the-variants.{None}
 use Rattle.std.proofs.shelf.Tests.{and-left}
 use Rattle.std.proofs.shelf.Ways.{decides-at}
 use Rattle.std.proofs.shelf.Lists.{getD-past, getD-default}
-use Rattle.turns.specs.Tables.{isAdmitted, withoutHead}
-use Rattle.turns.specs.Counts.{leavesFirst, canStart}
-use Rattle.turns.proofs.Choice.{can-start-decides}
+use Rattle.orders.specs.Tables.{isAdmitted, withoutHead}
+use Rattle.orders.specs.Counts.{leavesFirst, canStart}
+use Rattle.orders.proofs.Choice.{can-start-decides}
 use Rattle.turns.proofs.table.TurnTable.can_start.Needs as need
 
 pub returns-then-head-gt13 : need.returns-then-head-gt13

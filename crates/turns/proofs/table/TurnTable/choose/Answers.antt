@@ -3,9 +3,9 @@ use mathlib.Core.Bool.{false, true}
 use Rattle.std.specs.declared.option.Option.the-variants.{Some}
 use Rattle.std.proofs.shelf.Tests.{cond-true, cond-false}
 use Rattle.std.proofs.shelf.Ways.{same-from-decides}
-use Rattle.turns.specs.Counts.{canStart}
-use Rattle.turns.specs.Choice.{smallestSlack, chosen}
-use Rattle.turns.proofs.Choice.{can-start-decides, chosen-is-computed}
+use Rattle.orders.specs.Counts.{canStart}
+use Rattle.orders.specs.Choice.{smallestSlack, chosen}
+use Rattle.orders.proofs.Choice.{can-start-decides, chosen-is-computed}
 use Rattle.turns.proofs.table.TurnTable.choose.Needs as need
 
 pub returns-then-can-start : need.returns-then-can-start

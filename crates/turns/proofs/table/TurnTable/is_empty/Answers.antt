@@ -1,6 +1,6 @@
 use mathlib.Core.Path.{sym, ap, _∙_}
 use Rattle.std.specs.Options.{isSome}
-use Rattle.turns.proofs.Choice.{is-empty-computed}
+use Rattle.orders.proofs.Choice.{is-empty-computed}
 use Rattle.turns.proofs.table.TurnTable.is_empty.Needs as need
 
 pub returns : need.returns
