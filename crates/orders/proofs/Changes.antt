@@ -18,7 +18,7 @@ use Rattle.orders.specs.declared.turn.Turn.{Turn}
 use Rattle.orders.specs.Tables.{Table, turnOf, isAdmitted, limitIn, limitOf, slackIn, headCount, isEmpty, withoutHead}
 use Rattle.orders.specs.Orders.{limitsAllow, fitsLimits}
 use Rattle.orders.specs.Counts.{slackWithin, headsWithin}
-use Rattle.orders.specs.Slots.{lowered, restored, served}
+use Rattle.orders.specs.Slots.{withSlack, lowered, restored, served}
 use Rattle.orders.proofs.Lists.{one, count-cons, count-no, count-le}
 use Rattle.orders.proofs.Counting.{turn-without, turn-others}
 
@@ -53,6 +53,15 @@ at-without P t h none all g =
     (λ ne. subst P (sym (turn-others t h g ne)) (all g))
     (cases-eq g h)
 
+-- ---- a place with another slack
+pub some-with : (slack : Turn → ℕ) (place : Option Turn) → isSome (withSlack slack place) ≡ isSome place
+some-with slack None = refl
+some-with slack (Some turn) = refl
+
+pub limit-with : (slack : Turn → ℕ) (place : Option Turn) → limitIn (withSlack slack place) ≡ limitIn place
+limit-with slack None = refl
+limit-with slack (Some turn) = refl
+
 -- ---- a slot for another head
 slack-within-lowered : (k : ℕ) (place : Option Turn) → slackWithin k (lowered place) ≡ slackWithin (suc k) place
 slack-within-lowered k None = refl
@@ -61,14 +70,6 @@ slack-within-lowered k (Some turn) =
     (λ e. e ∙ sym (le-leb (turn .slack) (suc k) (omega (arith, leb-true (turn .slack - 1) k e))))
     (λ e. e ∙ sym (lt-leb (turn .slack) (suc k) (omega (arith, leb-false (turn .slack - 1) k e))))
     (cases-bool (leb (turn .slack - 1) k))
-
-pub some-lowered : (place : Option Turn) → isSome (lowered place) ≡ isSome place
-some-lowered None = refl
-some-lowered (Some turn) = refl
-
-pub limit-lowered : (place : Option Turn) → limitIn (lowered place) ≡ limitIn place
-limit-lowered None = refl
-limit-lowered (Some turn) = refl
 
 pub slack-lowered : (place : Option Turn) → slackIn (lowered place) ≡ slackIn place - 1
 slack-lowered None = refl
@@ -85,14 +86,6 @@ turn-lowered (place ∷ t) zero = refl
 turn-lowered (place ∷ t) (suc g) = turn-lowered t g
 
 -- ---- a slot for the head itself
-pub some-restored : (place : Option Turn) → isSome (restored place) ≡ isSome place
-some-restored None = refl
-some-restored (Some turn) = refl
-
-pub limit-restored : (place : Option Turn) → limitIn (restored place) ≡ limitIn place
-limit-restored None = refl
-limit-restored (Some turn) = refl
-
 pub slack-restored : (place : Option Turn) → slackIn (restored place) ≡ limitIn place
 slack-restored None = refl
 slack-restored (Some turn) = refl
@@ -107,9 +100,9 @@ module _ (t : Table) (h : ℕ) (lt : h < length t) where
         arith,
         count-set isSome (map lowered t) h (restored (turnOf t h)) here,
         ap (λ e. one (isSome e)) (turn-lowered t h),
-        ap one (some-lowered (turnOf t h)),
-        ap one (some-restored (turnOf t h)),
-        count-lowered isSome isSome some-lowered t,
+        ap one (some-with (λ turn. turn .slack - 1) (turnOf t h)),
+        ap one (some-with (λ turn. turn .limit .value) (turnOf t h)),
+        count-lowered isSome isSome (some-with (λ turn. turn .slack - 1)) t,
       )
 
   -- of the others, those within k now were within k + 1 before

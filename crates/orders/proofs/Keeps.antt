@@ -13,7 +13,6 @@ use Rattle.orders.proofs.Lists.{one}
 use Rattle.orders.proofs.Counting.{counts-decide-orders}
 use Rattle.orders.proofs.Changes.{count-without-head, slack-within}
 
--- what a table that can exist keeps
 abbrev pub Keeps : Table → Type 0
 Keeps t = ∥ SomeOrder t ∥₁ × Bounded t
 

@@ -13,15 +13,18 @@ use Rattle.orders.specs.declared.turn.Turn.{Turn}
 use Rattle.orders.specs.Tables.{Table, turnOf}
 use Rattle.orders.specs.Choice.{chosen}
 
+-- a place with another slack
+abbrev pub withSlack : (Turn → ℕ) → Option Turn → Option Turn
+withSlack slack None = None
+withSlack slack (Some turn) = Some (record { limit = turn .limit; slack = slack turn })
+
 -- a place after a slot for another head
 abbrev pub lowered : Option Turn → Option Turn
-lowered None = None
-lowered (Some turn) = Some (record { limit = turn .limit; slack = turn .slack - 1 })
+lowered place = withSlack (λ turn. turn .slack - 1) place
 
 -- a place after a slot for its own head
 abbrev pub restored : Option Turn → Option Turn
-restored None = None
-restored (Some turn) = Some (record { limit = turn .limit; slack = turn .limit .value })
+restored place = withSlack (λ turn. turn .limit .value) place
 
 abbrev pub served : Table → ℕ → Table
 served t h = set (map lowered t) h (restored (turnOf t h))

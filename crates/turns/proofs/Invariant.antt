@@ -3,7 +3,7 @@ use mathlib.Core.Path.{_≡_, refl, sym, ap, subst, _∙_}
 use mathlib.Core.Bool.{true, false}
 use mathlib.Core.Logic.{⊎-elim}
 use mathlib.Core.List.{map}
-use Prim.Native.Nat.{ℕ, zero, suc, _≤_, _<_}
+use Prim.Native.Nat.{ℕ, zero, suc, _-_, _≤_, _<_}
 use native.Mathlib.Omega.{arith}
 use lib.Dec.{leb}
 use lib.ListN.{length, replicate}
@@ -20,7 +20,7 @@ use Rattle.orders.specs.Counts.{slackWithin, StartCounts}
 use Rattle.orders.specs.Slots.{served, lowered, restored}
 use Rattle.orders.proofs.Lists.{one}
 use Rattle.orders.proofs.Keeps.{Keeps, counts-of, order-of}
-use Rattle.orders.proofs.Changes.{inside, count-set, at-set, count-without-head, at-without, some-lowered, limit-lowered, slack-lowered, limit-restored, slack-restored, count-served, within-served, at-served, within-le-count, fits-each, each-fits}
+use Rattle.orders.proofs.Changes.{inside, count-set, at-set, count-without-head, at-without, some-with, limit-with, slack-lowered, slack-restored, count-served, within-served, at-served, within-le-count, fits-each, each-fits}
 
 -- ---- no head
 turn-empty : (n h : ℕ) → turnOf (replicate n None) h ≡ None
@@ -96,11 +96,11 @@ served-keeps t h (order, (fits, slacks, long)) (in′, positive, counts) =
       (
         each-fits (served t h)
             (at-served t h lt (λ e. isSome e ≡ true → headCount (served t h) ≤ limitIn e)
-            (λ _. omega (arith, limit-restored (turnOf t h), fits-each t fits h in′))
-            (λ g ne some. omega (arith, limit-lowered (turnOf t g), fits-each t fits g (sym (some-lowered (turnOf t g)) ∙ some)))),
+            (λ _. omega (arith, limit-with (λ turn. turn .limit .value) (turnOf t h), fits-each t fits h in′))
+            (λ g ne some. omega (arith, limit-with (λ turn. turn .slack - 1) (turnOf t g), fits-each t fits g (sym (some-with (λ turn. turn .slack - 1) (turnOf t g)) ∙ some)))),
         at-served t h lt (λ e. slackIn e ≤ limitIn e)
-            (omega (arith, slack-restored (turnOf t h), limit-restored (turnOf t h)))
-            (λ g ne. omega (arith, slack-lowered (turnOf t g), limit-lowered (turnOf t g), slacks g)),
+            (omega (arith, slack-restored (turnOf t h), limit-with (λ turn. turn .limit .value) (turnOf t h)))
+            (λ g ne. omega (arith, slack-lowered (turnOf t g), limit-with (λ turn. turn .slack - 1) (turnOf t g), slacks g)),
         length-set (map lowered t) h (restored (turnOf t h)) ∙ length-map t lowered ∙ long,
       ),
     )

@@ -21,7 +21,7 @@ use Rattle.turns.specs.Calls.{ifAccepted}
 use Rattle.turns.specs.Runs.{Call, admit, dismiss, dismissAll, serve, afterCall, afterCalls, slotOf, withSlot, slots, StaysAdmitted, TurnOrAdmission, SlacksCountSlots, EveryHeadGetsItsTurn, WishesAreGranted, TurnsKeepTheirLaw}
 use Rattle.orders.proofs.Lists.{times-own, count-no}
 use Rattle.orders.proofs.Counting.{counts-decide-orders, turn-without, turn-others}
-use Rattle.orders.proofs.Changes.{inside, turn-lowered, slack-lowered, limit-lowered, slack-restored, limit-restored, empty-each}
+use Rattle.orders.proofs.Changes.{inside, turn-lowered, slack-lowered, slack-restored, limit-with, empty-each}
 use Rattle.orders.proofs.Keeps.{Keeps, counts-of, slack-positive}
 use Rattle.turns.proofs.Invariant.{not-in-empty, empty-keeps, without-head-keeps, with-head-keeps, served-keeps}
 use Rattle.orders.proofs.Choice.{chosen-right}
@@ -63,7 +63,7 @@ slot-falls : (h : ℕ) (t : Table) (slot : Option ℕ) → 1 ≤ slackOf t h →
 slot-falls h t None positive in′ other = same-turn h t t refl
 slot-falls h t (Some g) positive in′ other =
     let now = getD-set-other (map lowered t) g h (restored (turnOf t g)) None (λ e. other (ap Some (sym e))) ∙ turn-lowered t h in
-    (omega (arith, ap slackIn now, slack-lowered (turnOf t h)), ap limitIn now ∙ limit-lowered (turnOf t h))
+    (omega (arith, ap slackIn now, slack-lowered (turnOf t h)), ap limitIn now ∙ limit-with (λ turn. turn .slack - 1) (turnOf t h))
 
 call-falls : (h : ℕ) (t : Table) (call : Call) → isAdmitted t h ≡ true → 1 ≤ slackOf t h → Falls h t (slotOf t call) (afterCall t call)
 call-falls h t (admit g l) old positive =
@@ -130,7 +130,7 @@ turn-in-full h t (serve wish) keeps is =
     let now : turnOf (afterCall t (serve wish)) h ≡ restored (turnOf t h) =
     ap (λ slot. turnOf (afterSlot t slot) h) is
     ∙ getD-set-same (map lowered t) h (restored (turnOf t h)) None (omega (arith, length-map t lowered)) in
-    ap slackIn now ∙ slack-restored (turnOf t h) ∙ sym (limit-restored (turnOf t h)) ∙ sym (ap limitIn now)
+    ap slackIn now ∙ slack-restored (turnOf t h) ∙ sym (limit-with (λ turn. turn .limit .value) (turnOf t h)) ∙ sym (ap limitIn now)
 
 slacks-count-slots : (t : Table) → Keeps t → SlacksCountSlots t
 slacks-count-slots t keeps last since h turn stay none =
