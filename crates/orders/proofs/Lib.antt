@@ -1,0 +1,5 @@
+pub mod Lists
+pub mod Counting
+pub mod Changes
+pub mod Keeps
+pub mod Choice

@@ -1,0 +1,3 @@
+pub mod Invariant
+pub mod Outcomes
+pub mod Rounds
