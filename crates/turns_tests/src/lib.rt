@@ -6,11 +6,8 @@ mod tests {
     use turns::fault::AdmissionFault;
     use turns::fault::AdmissionFaultDebug;
     use turns::fault::AdmissionFaultDisplay;
-    use turns::fault::AdmissionFaultPartialEq;
     use turns::fault::DismissalFault;
-    use turns::fault::DismissalFaultDebug;
     use turns::fault::DismissalFaultDisplay;
-    use turns::fault::DismissalFaultPartialEq;
     use turns::table::TurnTable;
 
     // Admits heads 0, 1, .. with these limits.
@@ -29,26 +26,28 @@ mod tests {
     #[test]
     fn faults_print_number_and_sentence(rt: LibcRuntime) -> Result<(), Fail> {
         let heap = rt.alloc();
-        check_eq(
-            format!(heap, "{}", AdmissionFault::NumberOver13)?.as_str(),
-            "12: head number over 13",
+        let over = format!(
+            heap,
+            "{}, {}",
+            AdmissionFault::NumberOver13,
+            DismissalFault::NumberOver13
         )?;
         check_eq(
-            format!(heap, "{}", AdmissionFault::AdmittedAlready)?.as_str(),
-            "13: head admitted already",
+            over.as_str(),
+            "12: head number over 13, 12: head number over 13",
+        )?;
+        let admission = format!(
+            heap,
+            "{}, {}",
+            AdmissionFault::AdmittedAlready,
+            AdmissionFault::Outnumbered
         )?;
         check_eq(
-            format!(heap, "{}", AdmissionFault::Outnumbered)?.as_str(),
-            "15: heads would outnumber a limit",
+            admission.as_str(),
+            "13: head admitted already, 15: heads would outnumber a limit",
         )?;
-        check_eq(
-            format!(heap, "{}", DismissalFault::NumberOver13)?.as_str(),
-            "12: head number over 13",
-        )?;
-        check_eq(
-            format!(heap, "{}", DismissalFault::NotAdmitted)?.as_str(),
-            "16: head not admitted",
-        )
+        let dismissal = format!(heap, "{}", DismissalFault::NotAdmitted)?;
+        check_eq(dismissal.as_str(), "16: head not admitted")
     }
 
     #[test]
