@@ -1,0 +1,4 @@
+pub mod Values
+pub mod Sheets
+pub mod Settings
+pub mod Amounts
