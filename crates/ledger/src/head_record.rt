@@ -1,7 +1,4 @@
-ghost use Prim.Native.Nat.{_+_, _*_, _≤_};
-ghost use mathlib.Core.Bool.{cond};
-ghost use Rattle.std.specs.Options.{isSome};
-ghost use Rattle.ledger.specs.Held.{mostAmount, mostTotal, Amount};
+ghost use Rattle.ledger.specs.Held.{Within, Amount};
 
 // What a table holds for a head. No record exists that breaks the bound, or that promises what is no amount.
 #[derive(Clone, Copy)]
@@ -9,6 +6,6 @@ pub struct HeadRecord {
     pub promised: Option<u32>,
     pub credited: u64,
     pub places: u16,
-    ghost within: { credited + mostAmount * (places + cond (isSome promised) 1 0) ≤ mostTotal },
+    ghost within: { Within (record { promised = promised; credited = credited; places = places }) },
     ghost amount: { Amount promised },
 }

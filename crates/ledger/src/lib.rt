@@ -117,11 +117,14 @@ pub trait Ledger {
     // A promised amount is 1 to 255,000,000.
     ghost amounts: { (s : Self) (h : ℕ) → Amount (held s h .promised) };
 
-    // What no call changes, accepted or refused: that a buffer in which a ledger lies still passes its check.
+    // What every call keeps, accepted or refused, from before it to after it: as that a buffer in which a ledger
+    // lies still passes its check.
     ghost keeps: { Self → Self → Type 0 };
 
+    // No call at all keeps it too,
     ghost stays: { (s : Self) → keeps s s };
 
+    // and so does one call after another.
     ghost joins: { (s t u : Self) → keeps s t → keeps t u → keeps s u };
 
     // The amount that is promised for a head, if any.
