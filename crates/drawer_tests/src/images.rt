@@ -27,22 +27,22 @@ pub const ABOVE_MOST: [u8; 4] = [0xC1, 0xFD, 0x32, 0x0F];
 #[derive(Clone, Copy)]
 pub struct Field(pub usize, pub u8, pub [u8; 2], pub [u8; 4]);
 
-pub fn bad_field(place: usize) -> Result<(), DrawerFault> {
+pub(crate) fn bad_field(place: usize) -> Result<(), DrawerFault> {
     Err(DrawerFault::BadField(Number, place))
 }
 
 pub const FOUR: [u8; 2] = [4, 0];
 
-pub fn promise(place: usize, amount: [u8; 4]) -> Field {
+pub(crate) fn promise(place: usize, amount: [u8; 4]) -> Field {
     Field(place, 0x50, FOUR, amount)
 }
 
-pub fn settled(place: usize, amount: [u8; 4]) -> Field {
+pub(crate) fn settled(place: usize, amount: [u8; 4]) -> Field {
     Field(place, 0x43, FOUR, amount)
 }
 
 // A fresh image with fields written over it.
-pub fn image(fields: &[Field]) -> [u8; LENGTH] {
+pub(crate) fn image(fields: &[Field]) -> [u8; LENGTH] {
     let mut bytes = [0; LENGTH];
     let _ = write_fresh(&mut bytes, BILLS);
     for field in fields {
@@ -60,6 +60,6 @@ pub fn image(fields: &[Field]) -> [u8; LENGTH] {
     bytes
 }
 
-pub fn check_of(fields: &[Field]) -> Result<(), DrawerFault> {
+pub(crate) fn check_of(fields: &[Field]) -> Result<(), DrawerFault> {
     check(&image(fields), BILLS)
 }

@@ -20,14 +20,14 @@ pub const NONE_PROMISED: LedgerFault = LedgerFault::NonePromised(Number);
 #[derive(Clone, Copy)]
 pub struct Step(pub u8, pub Call, pub Result<(), LedgerFault>);
 
-pub fn run<L: Ledger>(ledger: &mut L, steps: &[Step]) -> Result<(), Fail> {
+pub(crate) fn run<L: Ledger>(ledger: &mut L, steps: &[Step]) -> Result<(), Fail> {
     for step in steps {
         check_eq(make_call(ledger, step.0, step.1), step.2)?;
     }
     Ok(())
 }
 
-pub fn check_holds<L: Ledger>(
+pub(crate) fn check_holds<L: Ledger>(
     ledger: &L,
     head: u8,
     promised: Option<u32>,
