@@ -10,4 +10,4 @@ pieces text kind command payload end kind' payload' end' byte byte' place e k c 
 
 pub returns : goal.returns
 returns c =
-    pieces _ _ _ _ _ _ _ _ c.command.result _ c.args.heard.place c.in-ok-text.ensures.ok c.kind-word-kind.ensures c.in-ok-command.ensures c.command.ensures (c.in-ok-data.ensures ∙ ap blanked c.data.ensures) c.in-ok-refusal.ensures
+    pieces _ _ _ _ _ _ _ _ c.command.result _ c.args.heard.place c.in_ok-text.ensures.ok c.kind_word-kind.ensures c.in_ok-command.ensures c.command.ensures (c.in_ok-data.ensures ∙ ap blanked c.data.ensures) c.in_ok-refusal.ensures

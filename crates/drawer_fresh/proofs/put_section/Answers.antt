@@ -20,8 +20,8 @@ loop-position-preserved c =
       | then-position-eq0 w ↦ inl (w.if-position-eq0.true, w.tag-is)
       | else-position-eq0 w ↦ inr (w.if-position-eq0.false, w.tag-is)
     ] in
-    ap (λ n. take n c.put-empty.new.bytes) z
-    ∙ c.put-empty.ensures
+    ap (λ n. take n c.put_empty.new.bytes) z
+    ∙ c.put_empty.ensures
     ∙ ap (λ xs. xs ++ empty_field c.if-position-eq0.tag) c.loop-position.invariant
     ∙ append_assoc before (begun p) (empty_field c.if-position-eq0.tag)
     ∙ ap (λ xs. before ++ xs) (begun_next p c.if-position-eq0.tag way)

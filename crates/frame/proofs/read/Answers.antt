@@ -11,7 +11,7 @@ returns-then-place-bytes c =
     let none = ap front_answer (drop_all c.args.place bytes past) in
     record {
       answer = sym none;
-      exactly = subst (Exactly bytes c.args.place) none (exactly bytes c.args.place (λ i. (c.type-inv.bytes i).fits));
+      exactly = subst (Exactly bytes c.args.place) none (exactly bytes c.args.place (λ i. (c.type_inv.bytes i).fits));
     }
 
 pub returns : goal.returns
@@ -20,5 +20,5 @@ returns c =
     let e = c.front.ensures ∙ ap front_answer (take_rest bytes c.args.place) in
     record {
       answer = e;
-      exactly = subst (Exactly bytes c.args.place) (sym e) (exactly bytes c.args.place (λ i. (c.type-inv.bytes i).fits));
+      exactly = subst (Exactly bytes c.args.place) (sym e) (exactly bytes c.args.place (λ i. (c.type_inv.bytes i).fits));
     }

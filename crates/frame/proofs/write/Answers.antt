@@ -17,7 +17,7 @@ after out payload p cmd s h e k =
 
 pub returns : goal.returns
 returns c =
-    let e = after c.args.buffer.now c.args.«data».now c.copy-from-slice.new.self c.args.command c.check-sum.result (omega arith) c.copy-from-slice.ensures.after c.check-sum.ensures in
+    let e = after c.args.buffer.now c.args.«data».now c.copy_from_slice.new.self c.args.command c.check-sum.result (omega arith) c.copy_from_slice.ensures.after c.check-sum.ensures in
     record {
       answer = search rules;
       after = e;

@@ -17,14 +17,14 @@ unfolding blanked
 nothing_spelled [] items h e = ap spelled (sym e)
 nothing_spelled (b ∷ line) items h e = absurd (omega arith)
 
-pub returns-then-is-empty : goal.returns-then-is-empty
-returns-then-is-empty c =
+pub returns-then-is_empty : goal.returns-then-is_empty
+returns-then-is_empty c =
     let none = c.new-bytes.ensures.items in
-    (no_bytes _ none, nothing_spelled _ _ (eqb-true _ 0 (sym c.if-is-empty.ensures)) none)
+    (no_bytes _ none, nothing_spelled _ _ (eqb-true _ 0 (sym c.if-is_empty.ensures)) none)
 
 pub returns-then-line-ne2 : goal.returns-then-line-ne2
 returns-then-line-ne2 c bs fit is =
-    let n = groups c.args.line.now bs (some _ (eqb-false _ 0 (sym c.if-is-empty.ensures))) is in
+    let n = groups c.args.line.now bs (some _ (eqb-false _ 0 (sym c.if-is_empty.ensures))) is in
     c.if-line-ne2.true (omega arith)
 
 pub loop-k-init : goal.loop-k-init
@@ -35,13 +35,13 @@ loop-k-init c =
 
 pub returns-then-line-k-ne32 : goal.returns-then-line-k-ne32
 returns-then-line-k-ne32 c bs fit is =
-    let pos = some c.args.line.now (eqb-false _ 0 (sym c.if-is-empty.ensures)) in
+    let pos = some c.args.line.now (eqb-false _ 0 (sym c.if-is_empty.ensures)) in
     let n = groups c.args.line.now bs pos is in
     c.if-line-k-ne32.true (blank_before c.args.line.now bs pos is c.loop-k.k c.if-k-gt0.true (omega arith))
 
 pub returns-in-None : goal.returns-in-None
 returns-in-None c bs fit is =
-    let pos = some c.args.line.now (eqb-false _ 0 (sym c.if-is-empty.ensures)) in
+    let pos = some c.args.line.now (eqb-false _ 0 (sym c.if-is_empty.ensures)) in
     let n = groups c.args.line.now bs pos is in
     let k = c.loop-k.k in
     c.in-None.ensures (get_or bs k 0) (fit k) (digits_at c.args.line.now bs pos is k (omega arith))
@@ -55,7 +55,7 @@ loop-k-preserved c =
     in
     let found = c.in-Some.ensures in
     let items = vec_items c.loop-k.bytes in
-    let push = c.in-ok-push.ensures.items in
+    let push = c.in_ok-push.ensures.items in
     let all = bytes_push items c.in-Some.byte c.loop-k.invariant.0 found.0 in
     (subst Bytes (sym push) all, byte_more line items k c.in-Some.byte (omega arith) blank found.1 c.loop-k.invariant.1 ∙ ap blanked (sym push))
 

@@ -5,10 +5,10 @@ use Rattle.hex_text.proofs.push_byte.Goals as goal
 pub returns : goal.returns
 returns c =
     let byte : c.args.byte < 256 = search rules in
-    let first = c.in-ok-push.ensures in
-    let second = c.in-ok-push-2.ensures in
-    let third = c.in-ok-push-3.ensures in
-    pushed (string_bytes c.args.text.now) (string_bytes c.push.new.self) (string_bytes c.push-2.new.self) (string_bytes c.push-3.new.self) c.args.byte c.digit-of.result c.digit-of-2.result byte c.digit-of.ensures.value c.digit-of-2.ensures.value
+    let first = c.in_ok-push.ensures in
+    let second = c.in_ok-push-2.ensures in
+    let third = c.in_ok-push-3.ensures in
+    pushed (string_bytes c.args.text.now) (string_bytes c.push.new.self) (string_bytes c.push-2.new.self) (string_bytes c.push-3.new.self) c.args.byte c.digit_of.result c.digit_of-2.result byte c.digit_of.ensures.value c.digit_of-2.ensures.value
     (first.bytes ∙ ap (λ e. string_bytes c.args.text.now ++ e) (first.ascii (omega arith)))
-    (second.bytes ∙ ap (λ e. string_bytes c.push.new.self ++ e) (second.ascii c.digit-of.ensures.ascii))
-    (third.bytes ∙ ap (λ e. string_bytes c.push-2.new.self ++ e) (third.ascii c.digit-of-2.ensures.ascii))
+    (second.bytes ∙ ap (λ e. string_bytes c.push.new.self ++ e) (second.ascii c.digit_of.ensures.ascii))
+    (third.bytes ∙ ap (λ e. string_bytes c.push-2.new.self ++ e) (third.ascii c.digit_of-2.ensures.ascii))

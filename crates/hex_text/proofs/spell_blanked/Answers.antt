@@ -12,7 +12,7 @@ pub loop-byte-preserved : goal.loop-byte-preserved
 loop-byte-preserved c =
     let bytes = c.args.bytes.now in
     let i = c.loop-byte.byte-index in
-    c.in-ok-push-byte.ensures ∙ ap (λ t. t ++ blanked (get_or bytes i 0 ∷ [])) c.loop-byte.invariant ∙ sym (blanked_more bytes i (omega arith))
+    c.in_ok-push_byte.ensures ∙ ap (λ t. t ++ blanked (get_or bytes i 0 ∷ [])) c.loop-byte.invariant ∙ sym (blanked_more bytes i (omega arith))
 
 pub returns : goal.returns
 returns c =

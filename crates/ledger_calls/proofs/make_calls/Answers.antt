@@ -4,7 +4,7 @@ use Rattle.ledger_calls.specs.Calls.{after_all}
 use Rattle.ledger_calls.specs.Books.{journal, accepted_in, Balanced}
 use Rattle.ledger_calls.proofs.Balances.{one_if_ok, balanced, refused_calls_leave_no_trace, turn_after, turn_accepted, last_after, last_accepted}
 use Rattle.ledger_calls.proofs.make_calls.Goals as goal
-use Rattle.ledger_calls.proofs.make_calls.Goals.{in-Ok, in-default}
+use Rattle.ledger_calls.proofs.make_calls.Goals.{in-Ok, in_default}
 
 pub loop-it-init : goal.loop-it-init
 loop-it-init g c = (omega arith, omega arith, refl, g.L.Ledger.stays c.args.ledger.now)
@@ -13,17 +13,17 @@ pub loop-it-preserved : goal.loop-it-preserved
 loop-it-preserved g c =
     let held = g.L.Ledger.held in
     let before = c.loop-it.ledger in
-    let since = c.make-call.new.ledger in
+    let since = c.make_call.new.ledger in
     let calls = c.args.calls.now in
     let i = c.loop-it.it-index in
     let lt = c.loop-it-test.true in
-    let made = c.make-call.ensures in
-    let counted : accepted_in (journal (held before) (drop i calls)) ≡ one_if_ok c.make-call.result + accepted_in (journal (held since) (drop (i + 1) calls)) =
-    turn_accepted (held before) (held since) _ c.make-call.result calls i lt made.answer made.after in (
-      elim c.match-make-call.branch [ in-Ok w ↦ omega (arith, w.accepted-is) | in-default w ↦ omega (arith, w.accepted-is) ],
-      elim c.match-make-call.branch [
+    let made = c.make_call.ensures in
+    let counted : accepted_in (journal (held before) (drop i calls)) ≡ one_if_ok c.make_call.result + accepted_in (journal (held since) (drop (i + 1) calls)) =
+    turn_accepted (held before) (held since) _ c.make_call.result calls i lt made.answer made.after in (
+      elim c.match-make_call.branch [ in-Ok w ↦ omega (arith, w.accepted-is) | in_default w ↦ omega (arith, w.accepted-is) ],
+      elim c.match-make_call.branch [
         | in-Ok w ↦ omega (arith, w.accepted-is, ap one_if_ok w.in-Ok.is)
-        | in-default w ↦ omega (arith, w.accepted-is, ap one_if_ok w.in-default.is)
+        | in_default w ↦ omega (arith, w.accepted-is, ap one_if_ok w.in_default.is)
       ],
       turn_after (held before) (held since) calls i lt made.after ∙ c.loop-it.invariant.2,
       g.L.Ledger.joins c.args.ledger.now before since c.loop-it.invariant.3 made.kept,

@@ -11,8 +11,8 @@ returns-then-byte-mark c =
     let i = c.loop-i.i in
     let here = opens_at m text i c.loop-i-test.true c.if-byte-mark.true in
     record {
-      front = c.split-at.ensures.front ∙ front_at m text i c.loop-i.invariant here;
-      back = c.split-at.ensures.back ∙ rest_at m text i c.loop-i.invariant here;
+      front = c.split_at.ensures.front ∙ front_at m text i c.loop-i.invariant here;
+      back = c.split_at.ensures.back ∙ rest_at m text i c.loop-i.invariant here;
     }
 
 pub loop-i-preserved : goal.loop-i-preserved
@@ -29,6 +29,6 @@ returns c =
     let none = whole m text c.loop-i.i c.loop-i-test.false c.loop-i.invariant in
     let here : opens m (drop (length text) text) ≡ true = ap (opens m) (drop_all (length text) text (omega arith)) in
     record {
-      front = c.split-at-2.ensures.front ∙ front_at m text (length text) none here;
-      back = c.split-at-2.ensures.back ∙ rest_at m text (length text) none here;
+      front = c.split_at-2.ensures.front ∙ front_at m text (length text) none here;
+      back = c.split_at-2.ensures.back ∙ rest_at m text (length text) none here;
     }

@@ -5,4 +5,4 @@ use Rattle.audit_report.proofs.report.report.Goals as goal
 
 pub returns-in-Ok : goal.returns-in-Ok
 returns-in-Ok c =
-    IfOk-weaker c.report-heads.result _ _ (λ text e. e ∙ report_passed c.args.image.now c.args.bills (sym c.in-Ok.ensures.answer)) c.report-heads.ensures
+    IfOk-weaker c.report_heads.result _ _ (λ text e. e ∙ report_passed c.args.image.now c.args.bills (sym c.in-Ok.ensures.answer)) c.report_heads.ensures

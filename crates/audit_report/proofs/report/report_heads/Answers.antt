@@ -11,6 +11,6 @@ loop-head-init c = c.new-text.ensures.bytes ∙ sym (lines_none (bytes_held c.ar
 pub loop-head-preserved : goal.loop-head-preserved
 loop-head-preserved c =
     let line : HeadLine → List ℕ = λ l. ended (head_text l.head l.promised l.credited l.places) in
-    c.in-ok-push-str.ensures.bytes
-    ∙ ap₂ (λ x y. x ++ y) c.loop-head.invariant (c.as-str.ensures.value ∙ c.in-ok-line.ensures.ok ∙ ap line c.head-line-line.ensures)
+    c.in_ok-push_str.ensures.bytes
+    ∙ ap₂ (λ x y. x ++ y) c.loop-head.invariant (c.as_str.ensures.value ∙ c.in_ok-line.ensures.ok ∙ ap line c.head_line-line.ensures)
     ∙ sym (lines_more (bytes_held c.args.image.now c.args.bills) c.loop-head.head)

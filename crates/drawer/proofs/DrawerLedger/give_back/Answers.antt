@@ -7,11 +7,11 @@ use Rattle.drawer.proofs.Calls.{indexed}
 use Rattle.drawer.proofs.Accepted.{read_some, read_places, give_call}
 use Rattle.drawer.proofs.DrawerLedger.give_back.Goals as goal
 
-pub put-amount-requires : goal.put-amount-requires
-put-amount-requires c =
+pub put_amount-requires : goal.put_amount-requires
+put_amount-requires c =
     let k = c.args.self.now.bills in
     let p = read_places c.args.self.now.bytes.now k c.args.head c.section-held.result c.section-held.ensures c.if-held-eq0.false in
-    let e = ap (promise_of k) (indexed c.args.head c.in-ok-index.index c.in-ok-index.ensures).1 in
+    let e = ap (promise_of k) (indexed c.args.head c.in_ok-index.index c.in_ok-index.ensures).1 in
     omega (arith, p.room)
 
 pub returns : goal.returns
@@ -20,9 +20,9 @@ returns c =
     let k = c.args.self.now.bills in
     let h = c.args.head in
     let p = read_places bs k h c.section-held.result c.section-held.ensures c.if-held-eq0.false in
-    let i = indexed h c.in-ok-index.index c.in-ok-index.ensures in
+    let i = indexed h c.in_ok-index.index c.in_ok-index.ensures in
     let call = give_call bs k h i.0 (read_some bs k h c.section-held.result c.section-held.ensures c.if-held-eq0.false) in
-    let bytes = c.put-amount.ensures ∙ ap (λ x. put_amount bs (promise_of k x) 0) i.1 in
+    let bytes = c.put_amount.ensures ∙ ap (λ x. put_amount bs (promise_of k x) 0) i.1 in
     record {
       answer = sym call.0;
       after = ap (λ x. bytes_held x k) bytes ∙ call.1;

@@ -6,10 +6,10 @@ use Rattle.drawer_image.specs.Checks.{earliest, bad_of, uncovered_of}
 use Rattle.drawer_image.proofs.Walks.{read_ok, read_err}
 use Rattle.drawer_image.proofs.Earliest.{room, earliest_none, earliest_more, earliest_by, earliest_added, earliest_kept}
 use Rattle.drawer_image.proofs.check.wrong_field.Goals as goal
-use Rattle.drawer_image.proofs.check.wrong_field.Goals.{then-not-is-covered, else-not-is-covered}
+use Rattle.drawer_image.proofs.check.wrong_field.Goals.{then-not-is_covered, else-not-is_covered}
 
-pub read-section-requires : goal.read-section-requires
-read-section-requires c = record { few = c.requires.few; room = room c.args.bills c.loop-head.head _ (omega arith) c.requires.sized }
+pub read_section-requires : goal.read_section-requires
+read_section-requires c = record { few = c.requires.few; room = room c.args.bills c.loop-head.head _ (omega arith) c.requires.sized }
 
 pub loop-head-init : goal.loop-head-init
 loop-head-init c = (earliest_none _, sym (earliest_none _))
@@ -32,8 +32,8 @@ loop-head-preserved c =
     let told : (x : Bool) → x ≡ covered c.in-Ok.section → uncovered_of bs k h ≡ unless x ((k + 1) * h) =
     λ x e. ap (λ y. unless y ((k + 1) * h)) (sym (e ∙ ap covered got.1)) in (
       earliest_more (bad_of bs k) h ∙ ap₂ option_or c.loop-head.invariant.0 got.0,
-      elim c.if-not-is-covered.branch [
-        | then-not-is-covered w ↦ w.uncovered-is ∙ w.or-uncovered.ensures ∙ earliest_added (uncovered_of bs k) h c.loop-head.uncovered (Some (7 * ((k + 1) * h))) c.loop-head.invariant.1 (told false w.if-not-is-covered.ensures)
-        | else-not-is-covered w ↦ w.uncovered-is ∙ earliest_kept (uncovered_of bs k) h c.loop-head.uncovered c.loop-head.invariant.1 (told true w.if-not-is-covered.ensures)
+      elim c.if-not-is_covered.branch [
+        | then-not-is_covered w ↦ w.uncovered-is ∙ w.or-uncovered.ensures ∙ earliest_added (uncovered_of bs k) h c.loop-head.uncovered (Some (7 * ((k + 1) * h))) c.loop-head.invariant.1 (told false w.if-not-is_covered.ensures)
+        | else-not-is_covered w ↦ w.uncovered-is ∙ earliest_kept (uncovered_of bs k) h c.loop-head.uncovered c.loop-head.invariant.1 (told true w.if-not-is_covered.ensures)
       ],
     )

@@ -8,33 +8,33 @@ use Rattle.drawer_image.proofs.section.section_of.Goals as goal
 pub returns-then-head-ge-HEADS : goal.returns-then-head-ge-HEADS
 returns-then-head-ge-HEADS c = sym (headless_none c.args.bytes.now c.args.bills c.args.head c.if-head-ge-HEADS.true)
 
-pub returns-then-is-err : goal.returns-then-is-err
-returns-then-is-err c =
+pub returns-then-is_err : goal.returns-then-is_err
+returns-then-is_err c =
     let bs = c.args.bytes.now in
     let k = c.args.bills in
-    sym (unsized_none bs k c.args.head (size_refused bs k c.check-size.result c.check-size.ensures c.if-is-err.ensures.value))
+    sym (unsized_none bs k c.args.head (size_refused bs k c.check_size.result c.check_size.ensures c.if-is_err.ensures.value))
 
-pub read-section-requires : goal.read-section-requires
-read-section-requires c =
-    let z = size_accepted c.args.bytes.now c.args.bills c.check-size.result c.check-size.ensures c.if-is-err.ensures.value in
+pub read_section-requires : goal.read_section-requires
+read_section-requires c =
+    let z = size_accepted c.args.bytes.now c.args.bills c.check_size.result c.check_size.ensures c.if-is_err.ensures.value in
     record { few = z.few; room = room c.args.bills c.args.head _ c.if-head-ge-HEADS.false z.long }
 
-pub returns-then-is-covered : goal.returns-then-is-covered
-returns-then-is-covered c =
+pub returns-then-is_covered : goal.returns-then-is_covered
+returns-then-is_covered c =
     let bs = c.args.bytes.now in
     let k = c.args.bills in
     let h = c.args.head in
-    let z = size_accepted bs k c.check-size.result c.check-size.ensures c.if-is-err.ensures.value in
+    let z = size_accepted bs k c.check_size.result c.check_size.ensures c.if-is_err.ensures.value in
     let got = read_ok (bad_in bs (promise_of k h) k) (section_of bs (promise_of k h) k) c.in-Ok.section c.in-Ok.ensures in
-    got.1 ∙ sym (section_sound bs k h c.if-head-ge-HEADS.false z (record { good = got.0; backs = sym (ap covered got.1) ∙ sym c.if-is-covered.ensures }))
+    got.1 ∙ sym (section_sound bs k h c.if-head-ge-HEADS.false z (record { good = got.0; backs = sym (ap covered got.1) ∙ sym c.if-is_covered.ensures }))
 
-pub returns-else-is-covered : goal.returns-else-is-covered
-returns-else-is-covered c =
+pub returns-else-is_covered : goal.returns-else-is_covered
+returns-else-is_covered c =
     let bs = c.args.bytes.now in
     let k = c.args.bills in
     let h = c.args.head in
     let got = read_ok (bad_in bs (promise_of k h) k) (section_of bs (promise_of k h) k) c.in-Ok.section c.in-Ok.ensures in
-    sym (bare_none bs k h (sym (ap covered got.1) ∙ sym c.if-is-covered.ensures))
+    sym (bare_none bs k h (sym (ap covered got.1) ∙ sym c.if-is_covered.ensures))
 
 pub returns-in-Err : goal.returns-in-Err
 returns-in-Err c =

@@ -4,7 +4,7 @@ use Rattle.ledger.specs.Starts.{all_fit}
 use Rattle.ledger.proofs.Fits.{fit_each}
 use Rattle.ledger.proofs.starts.accepted_starts.Goals as goal
 
-pub returns-then-all-fit : goal.returns-then-all-fit
-returns-then-all-fit c =
+pub returns-then-all_fit : goal.returns-then-all_fit
+returns-then-all_fit c =
     let e : all_fit c.args.starts ≡ true = search rules in
     record { value = sym (cond-true (all_fit c.args.starts) _ _ e); fit = fit_each c.args.starts e }

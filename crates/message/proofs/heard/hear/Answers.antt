@@ -19,13 +19,13 @@ returns-in-Ok c =
     record { answer = ap Ok is ∙ first.0; hears = subst (λ (f : Found). Hears bytes (Ok f)) (sym is) first.1 }
 
 pub loop-place-preserved : goal.loop-place-preserved
-loop-place-preserved c = below_more _ _ c.loop-place.invariant (unread c.args.received.now c.loop-place.place _ (sym c.in-default.ensures.answer))
+loop-place-preserved c = below_more _ _ c.loop-place.invariant (unread c.args.received.now c.loop-place.place _ (sym c.in_default.ensures.answer))
 
 pub unreachable-requires : goal.unreachable-requires
-unreachable-requires c = never_read c.args.received.now (λ p lt. c.loop-place.invariant p (omega arith)) c.fault-place-place.result _ (sym c.in-Ok-read.ensures.answer)
+unreachable-requires c = never_read c.args.received.now (λ p lt. c.loop-place.invariant p (omega arith)) c.fault_place-place.result _ (sym c.in-Ok-read.ensures.answer)
 
 pub returns : goal.returns
 returns c =
-    let place = c.fault-place-place in
+    let place = c.fault_place-place in
     let none = frame_nowhere c.args.received.now (λ p lt. c.loop-place.invariant p (omega arith)) place.result c.in-Err.fault place.ensures.value place.ensures.earliest (sym c.in-Err.ensures.answer) in
     record { answer = none.0; hears = none.1 }

@@ -13,8 +13,8 @@ loop-i-preserved c =
     let place = c.index-next-i.result in
     let here : i < length t = omega arith in
     let here' : i < length next = omega (arith, c.loop-i.invariant.0) in (
-      omega (arith, length-set next i c.lower-slack.result, c.loop-i.invariant.0),
-      ap (set next i) c.lower-slack.ensures
+      omega (arith, length-set next i c.lower_slack.result, c.loop-i.invariant.0),
+      ap (set next i) c.lower_slack.ensures
           ∙ map_over_more lowered t next i (get_or next i place) here c.loop-i.invariant.1 (get_or_default next i place (get_or next i place) here'),
     )
 
@@ -30,8 +30,8 @@ returns-then-h-lt14 c =
     let t = c.args.places.now in
     let h = c.args.h in
     let here : h < length t = omega arith in
-    ap (λ l. set l h c.restore-slack.result) (lowered_all t c.loop-i.next c.loop-i.i (omega arith) c.loop-i.invariant.1)
-    ∙ ap (set (map lowered t) h) (c.restore-slack.ensures ∙ ap restored (get_or_default t h c.index-places-h.result None here))
+    ap (λ l. set l h c.restore_slack.result) (lowered_all t c.loop-i.next c.loop-i.i (omega arith) c.loop-i.invariant.1)
+    ∙ ap (set (map lowered t) h) (c.restore_slack.ensures ∙ ap restored (get_or_default t h c.index-places-h.result None here))
 
 -- there is no place for h
 pub returns-else-h-lt14 : goal.returns-else-h-lt14

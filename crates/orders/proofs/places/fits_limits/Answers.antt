@@ -6,7 +6,7 @@ use Rattle.orders.specs.declared.turn.Turn.{Turn}
 use Rattle.orders.specs.Tables.{Table, head_count}
 use Rattle.orders.specs.Orders.{limit_allows, limits_allow}
 use Rattle.orders.proofs.places.fits_limits.Goals as goal
-use Rattle.orders.proofs.places.fits_limits.Goals.{then-is-some, else-is-some}
+use Rattle.orders.proofs.places.fits_limits.Goals.{then-is_some, else-is_some}
 
 -- the limit at place i goes from what is left to the least found
 limits_more : (n : ℕ) (t : Table) (i : ℕ) (place : Option Turn) (found next : ℕ) → i < length t → leb n next ≡ (leb n found && limit_allows n (get_or t i place)) → limits_allow n t ≡ (leb n found && limits_allow n (drop i t)) → limits_allow n t ≡ (leb n next && limits_allow n (drop (i + 1) t))
@@ -22,14 +22,14 @@ loop-place-preserved c =
     let t = c.args.places.now in
     let i = c.loop-place.place-index in
     let here : i < length t = omega arith in
-    let limits : (n : ℕ) → n ≤ 14 → limits_allow n t ≡ (leb n c.lesser-limit-limit.result && limits_allow n (drop (i + 1) t)) =
-    λ n le. limits_more n t i c.place-item.result c.loop-place.limit c.lesser-limit-limit.result here (c.lesser-limit-limit.ensures n) (c.loop-place.invariant.2 n le) in
-    elim c.if-is-some.branch [
-      | then-is-some w ↦
-          let more = count_by_more_yes is_some t i c.place-item.result here (sym c.is-some.ensures ∙ w.if-is-some.true) in
+    let limits : (n : ℕ) → n ≤ 14 → limits_allow n t ≡ (leb n c.lesser_limit-limit.result && limits_allow n (drop (i + 1) t)) =
+    λ n le. limits_more n t i c.place-item.result c.loop-place.limit c.lesser_limit-limit.result here (c.lesser_limit-limit.ensures n) (c.loop-place.invariant.2 n le) in
+    elim c.if-is_some.branch [
+      | then-is_some w ↦
+          let more = count_by_more_yes is_some t i c.place-item.result here (sym c.is_some.ensures ∙ w.if-is_some.true) in
           (omega (arith, w.count-is), omega (arith, w.count-is, more), limits)
-      | else-is-some w ↦
-          let same = count_by_more_no is_some t i c.place-item.result here (sym c.is-some.ensures ∙ w.if-is-some.false) in
+      | else-is_some w ↦
+          let same = count_by_more_no is_some t i c.place-item.result here (sym c.is_some.ensures ∙ w.if-is_some.false) in
           (omega (arith, w.count-is), omega (arith, w.count-is, same), limits)
     ]
 

@@ -3,7 +3,7 @@ use Rattle.std.proofs.lemmas.List.{take_all}
 use Rattle.std.proofs.lemmas.List.Sums.{count_by_more_yes, count_by_more_no}
 use Rattle.orders.specs.Counts.{slack_within, heads_within}
 use Rattle.orders.proofs.places.heads_within.Goals as goal
-use Rattle.orders.proofs.places.heads_within.Goals.{then-slack-within, else-slack-within}
+use Rattle.orders.proofs.places.heads_within.Goals.{then-slack_within, else-slack_within}
 
 pub loop-place-preserved : goal.loop-place-preserved
 loop-place-preserved c =
@@ -11,12 +11,12 @@ loop-place-preserved c =
     let i = c.loop-place.place-index in
     let here : i < length t = omega arith in
     let test = slack_within c.args.k in
-    elim c.if-slack-within.branch [
-      | then-slack-within w ↦
-          let more = count_by_more_yes test t i c.place-item.result here (sym c.slack_within_lem.ensures ∙ w.if-slack-within.true) in
+    elim c.if-slack_within.branch [
+      | then-slack_within w ↦
+          let more = count_by_more_yes test t i c.place-item.result here (sym c.slack_within_lem.ensures ∙ w.if-slack_within.true) in
           (omega (arith, w.count-is), omega (arith, w.count-is, more))
-      | else-slack-within w ↦
-          let same = count_by_more_no test t i c.place-item.result here (sym c.slack_within_lem.ensures ∙ w.if-slack-within.false) in
+      | else-slack_within w ↦
+          let same = count_by_more_no test t i c.place-item.result here (sym c.slack_within_lem.ensures ∙ w.if-slack_within.false) in
           (omega (arith, w.count-is), omega (arith, w.count-is, same))
     ]
 

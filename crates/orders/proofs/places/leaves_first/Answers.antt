@@ -11,7 +11,7 @@ pub loop-k-preserved : goal.loop-k-preserved
 loop-k-preserved c =
     let t = c.args.others.now in
     let k = c.loop-k.k in
-    let here : heads_within (suc k) t ≤ k = omega (arith, c.heads-within.ensures, ap (λ n. heads_within n t) (add-one k)) in
+    let here : heads_within (suc k) t ≤ k = omega (arith, c.heads_within.ensures, ap (λ n. heads_within n t) (add-one k)) in
     (leaves_first_decides t (k + 1)).1
     (λ j lt.
     ⊎_elim
@@ -19,12 +19,12 @@ loop-k-preserved c =
     (λ ge. subst (λ n. heads_within (suc n) t ≤ n) (omega arith) here)
     (cases_lt j k))
 
-pub returns-then-heads-within-k : goal.returns-then-heads-within-k
-returns-then-heads-within-k c =
+pub returns-then-heads_within-k : goal.returns-then-heads_within-k
+returns-then-heads_within-k c =
     let t = c.args.others.now in
     let k = c.loop-k.k in
     ⊎_elim
-    (λ e. absurd (omega (arith, (leaves_first_decides t 14).0 e k (omega arith), c.heads-within.ensures, ap (λ n. heads_within n t) (add-one k))))
+    (λ e. absurd (omega (arith, (leaves_first_decides t 14).0 e k (omega arith), c.heads_within.ensures, ap (λ n. heads_within n t) (add-one k))))
     (λ e. sym e)
     (cases_Bool (leaves_first t 14))
 

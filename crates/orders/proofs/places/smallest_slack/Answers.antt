@@ -10,8 +10,8 @@ loop-i-preserved c =
     let t = c.args.places.now in
     let i = c.loop-i.i in
     let here : i < length t = omega arith in
-    ap (λ n. smallest_from c.smaller-slack-found.result n (drop n t)) (add-one i)
-    ∙ ap (λ found. smallest_from found (suc i) (drop (suc i) t)) c.smaller-slack-found.ensures
+    ap (λ n. smallest_from c.smaller_slack-found.result n (drop n t)) (add-one i)
+    ∙ ap (λ found. smallest_from found (suc i) (drop (suc i) t)) c.smaller_slack-found.ensures
     ∙ sym (ap (smallest_from c.loop-i.found i) (drop-cons t i c.index-places-i.result here))
     ∙ c.loop-i.invariant
 

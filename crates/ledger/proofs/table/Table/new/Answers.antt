@@ -9,10 +9,10 @@ use Rattle.ledger.proofs.table.Table.new.Goals as goal
 pub returns : goal.returns
 returns c = fun_ext (λ h. at h (leb heads h) refl)
   where
-    below : (h : ℕ) → h < heads → cond (ltb h c.loop-head.head) (get_or c.accepted-starts-places.result h 0) 0 ≡ get_or (accepted c.args.starts) h 0
+    below : (h : ℕ) → h < heads → cond (ltb h c.loop-head.head) (get_or c.accepted_starts-places.result h 0) 0 ≡ get_or (accepted c.args.starts) h 0
     below h lt =
         cond-true (ltb h c.loop-head.head) _ _ (lt-ltb h c.loop-head.head (omega arith))
-        ∙ ap (λ xs. get_or xs h 0) c.accepted-starts-places.ensures.value
+        ∙ ap (λ xs. get_or xs h 0) c.accepted_starts-places.ensures.value
 
     at : (h : ℕ) (b : Bool) → leb heads h ≡ b → held_in (cond b blank (get_or c.loop-head.records h blank)) ≡ cond b nothing (starting (get_or (accepted c.args.starts) h 0))
     at h true is = refl

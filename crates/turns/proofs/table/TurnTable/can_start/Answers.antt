@@ -15,13 +15,13 @@ returns-then-head-gt13 c =
     let out : is_admitted t h ≡ false = ap is_some (get_or_past t h None (omega (arith, table.bounded.2))) in
     Decides-at false (can_start t h) (sym (and_left (is_admitted t h) (leaves_first (without_head t h) 14) out)) (can_start_decides t h (table.ordered, table.bounded))
 
-pub returns-then-is-none : goal.returns-then-is-none
-returns-then-is-none c =
+pub returns-then-is_none : goal.returns-then-is_none
+returns-then-is_none c =
     let table = c.args.self.now in
     let t = table.heads in
     let h = c.args.head in
     let here : h < length t = omega (arith, table.bounded.2) in
-    let out : is_admitted t h ≡ false = ap is_some (get_or_default t h None c.index-others-head.result here) ∙ c.if-is-none.ensures in
+    let out : is_admitted t h ≡ false = ap is_some (get_or_default t h None c.index-others-head.result here) ∙ c.if-is_none.ensures in
     Decides-at false (can_start t h) (sym (and_left (is_admitted t h) (leaves_first (without_head t h) 14) out)) (can_start_decides t h (table.ordered, table.bounded))
 
 pub returns : goal.returns
@@ -30,7 +30,7 @@ returns c =
     let t = table.heads in
     let h = c.args.head in
     let here : h < length t = omega (arith, table.bounded.2) in
-    let in' : is_admitted t h ≡ true = ap is_some (get_or_default t h None c.index-others-head.result here) ∙ c.if-is-none.ensures in
-    Decides-at c.leaves-first.result (can_start t h)
-    (c.leaves-first.ensures ∙ sym (ap (λ b. b && leaves_first (without_head t h) 14) in'))
+    let in' : is_admitted t h ≡ true = ap is_some (get_or_default t h None c.index-others-head.result here) ∙ c.if-is_none.ensures in
+    Decides-at c.leaves_first.result (can_start t h)
+    (c.leaves_first.ensures ∙ sym (ap (λ b. b && leaves_first (without_head t h) 14) in'))
     (can_start_decides t h (table.ordered, table.bounded))

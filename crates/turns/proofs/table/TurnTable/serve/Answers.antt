@@ -4,12 +4,12 @@ use Rattle.orders.proofs.Keeps.{Keeps}
 use Rattle.turns.proofs.Invariant.{served_keeps}
 use Rattle.turns.proofs.table.TurnTable.serve.Goals as goal
 
-pub invariant-of-self : goal.invariant-of-self
-invariant-of-self c =
+pub invariant_of-self : goal.invariant_of-self
+invariant_of-self c =
     let table = c.args.self.now in
     let t = table.heads in
     let h = c.in-Some.head in
     let keeps =
-    subst Keeps (sym c.after-slot-self.ensures)
+    subst Keeps (sym c.after_slot-self.ensures)
     (served_keeps t h (table.ordered, table.bounded) ((counts_decide_orders_lem.starts t h).0 c.in-Some.ensures.turn.starts)) in
     (keeps.0, (keeps.1, tt))
