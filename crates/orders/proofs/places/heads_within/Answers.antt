@@ -13,10 +13,10 @@ loop-place-preserved c =
     let test = slack_within c.args.k in
     elim c.if-slack_within.branch [
       | then-slack_within w ↦
-          let more = count_by_more_yes test t i c.place-item.result here (sym c.slack_within_lem.ensures ∙ w.if-slack_within.true) in
+          let more = count_by_more_yes test t i c.place-item.result here (sym c.slack_within.ensures ∙ w.if-slack_within.true) in
           (omega (arith, w.count-is), omega (arith, w.count-is, more))
       | else-slack_within w ↦
-          let same = count_by_more_no test t i c.place-item.result here (sym c.slack_within_lem.ensures ∙ w.if-slack_within.false) in
+          let same = count_by_more_no test t i c.place-item.result here (sym c.slack_within.ensures ∙ w.if-slack_within.false) in
           (omega (arith, w.count-is), omega (arith, w.count-is, same))
     ]
 

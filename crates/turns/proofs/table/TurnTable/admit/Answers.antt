@@ -18,4 +18,4 @@ invariant_of-self c =
     let keeps : Keeps (with' c.value.result) =
     subst (λ slack. Keeps (with' slack)) (sym c.value.ensures)
     (with_head_keeps t h limit (c.args.self.now.ordered, c.args.self.now.bounded) (omega (arith, c.args.self.now.bounded.2)) free.1 fits) in
-    (keeps.0, (keeps.1, tt))
+    record { ordered = keeps.0; bounded = keeps.1 }

@@ -5,4 +5,4 @@ pub invariant_of-self : goal.invariant_of-self
 invariant_of-self c =
     let table = c.args.self.now in
     let keeps = without_head_keeps table.heads _ (table.ordered, table.bounded) in
-    (keeps.0, (keeps.1, tt))
+    record { ordered = keeps.0; bounded = keeps.1 }

@@ -12,4 +12,4 @@ invariant_of-self c =
     let keeps =
     subst Keeps (sym c.after_slot-self.ensures)
     (served_keeps t h (table.ordered, table.bounded) ((counts_decide_orders_lem.starts t h).0 c.in-Some.ensures.turn.starts)) in
-    (keeps.0, (keeps.1, tt))
+    record { ordered = keeps.0; bounded = keeps.1 }
