@@ -1,3 +1,5 @@
+#![tactic(auto)]
+
 // What a script says: the ledger that each head has, and the steps in their order.
 use head::Phase;
 use sheet::Draft;

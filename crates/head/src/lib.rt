@@ -1,3 +1,5 @@
+#![tactic(auto)]
+
 // A test head: an ID-003 acceptor for the hub to be tested against.
 mod answer;
 mod command;

@@ -1,3 +1,5 @@
+#![tactic(auto)]
+
 // Tests of the head by tables. The expected values were written by hand from the tables of docs/HEAD.md.
 #[cfg(test)]
 mod commands;

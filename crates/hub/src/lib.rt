@@ -1,3 +1,5 @@
+#![tactic(auto)]
+
 // The hub: it admits heads, opens a slot for one head at a time, and reacts to what the head answers. It owns its ledger.
 mod accept;
 mod heads;

@@ -1,3 +1,5 @@
+#![tactic(auto)]
+
 // How the hub reacts to a head's status: which ledger calls it makes, and which second frame it sends.
 mod calls;
 mod fault;

@@ -1,3 +1,5 @@
+#![tactic(auto)]
+
 // Runs: a hub, its ledger, fourteen heads and the line between them, over any sequence of calls, frames, losses, own moves
 // and power cuts; and the law that stands at every moment of every run.
 ghost use Rattle.runs.specs.Law.{RunsKeepTheLaw};

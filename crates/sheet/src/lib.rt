@@ -1,3 +1,5 @@
+#![tactic(auto)]
+
 // A head's sheet: what the operator says of it, checked once and for all at admission.
 mod denomination;
 mod fault;

@@ -1,3 +1,5 @@
+#![tactic(auto)]
+
 // Turns: which head is polled next, so that no head waits past its limit.
 pub mod fault;
 pub mod law;

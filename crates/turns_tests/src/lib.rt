@@ -1,3 +1,5 @@
+#![tactic(auto)]
+
 // Runs of the turn table on examples: what it prints, and the worked listing by the code itself.
 #[cfg(test)]
 mod tests {
