@@ -1,5 +1,5 @@
 -- What a head does with the message that it heard. Assumes nothing.
-use Rattle.std.proofs.Common.{◌≡◌, ℕ, ◌≤◌, List, [], ◌∷◌, length, Ok, Err, Result, sym, ap, ◌∙◌, arith}
+use Rattle.std.proofs.Common.{◌≡◌, ℕ, ◌≤◌, List, [], ◌∷◌, length, Ok, Result, ap, ◌∙◌, arith}
 use Rattle.frame.specs.Frames.{Content, content}
 use Rattle.message.specs.Heard.{Found}
 use Rattle.message.specs.declared.heard.NothingHeard.{NothingHeard}

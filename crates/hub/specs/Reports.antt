@@ -30,7 +30,6 @@
 --
 -- Refused, a report leaves hub, ledger and buffer as they are. Assumes nothing.
 use Rattle.std.specs.Prelude.{ℕ, ◌+◌, min, Bool, false, cond, List, [], length, take, is_some, Some, None, Ok, Err, Option, Result, nat_lt, slice_set}
-use Rattle.number.specs.declared.Number.{Number}
 use Rattle.std.specs.Option.{option_map}
 use Rattle.frame.specs.Frames.{Content}
 use Rattle.message.specs.Heard.{Found, hear_answer, told_heard}

@@ -13,7 +13,7 @@
 --   next_count s          the count of the next slot: 1 for the first, modulo 2^64
 --
 -- Assumes nothing.
-use Rattle.std.specs.Prelude.{ℕ, ◌+◌, ◌%◌, ◌^◌, Bool, true, false, cond, List, replicate, is_some, Some, None, Option, ◌==◌, slice_index_or}
+use Rattle.std.specs.Prelude.{ℕ, ◌+◌, ◌%◌, ◌^◌, Bool, cond, List, replicate, is_some, Some, None, Option, ◌==◌, slice_index_or}
 use Rattle.orders.specs.Tables.{Table, empty_table}
 use Rattle.reaction.specs.declared.setup.Setup.{Setup}
 use Rattle.hub.specs.declared.state.Slot.{Slot}

@@ -16,7 +16,6 @@ use Rattle.status.specs.Statuses.{status_byte, status_data}
 use Rattle.status.specs.declared.Status.{Status}
 use Rattle.reaction.specs.Orderly.{is_orderly}
 use Rattle.reaction.specs.Setups.{fresh_setup, is_set_up}
-use Rattle.reaction.specs.declared.fault.HeadFault.{HeadFault}
 use Rattle.reaction.specs.declared.fault.HeadFault.TheVariants as fault
 use Rattle.reaction.specs.declared.reaction.Reaction.{Reaction}
 use Rattle.reaction.specs.declared.reaction.Reply.{Reply}

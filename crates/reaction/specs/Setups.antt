@@ -12,7 +12,7 @@
 --                          a setting exactly if the message heard equals it
 --
 -- Assumes nothing.
-use Rattle.std.specs.Prelude.{◌≡◌, ℕ, suc, Bool, true, false, cond, not, ◌&&◌, is_some, Some, None, Option, ◌==◌}
+use Rattle.std.specs.Prelude.{◌≡◌, suc, Bool, true, false, cond, not, ◌&&◌, is_some, Some, None, Option, ◌==◌}
 use Rattle.std.specs.Str.{bytes_eq}
 use Rattle.frame.specs.Frames.{Content}
 use Rattle.sheet.specs.Settings.{settings_of, nth}

@@ -13,9 +13,8 @@
 -- Hub, ledger and heads change by the definitions that the contracts of their calls cite. A power cut inside a first report
 -- is one step with the restart that follows it; a cut elsewhere is the call done, or not begun, and a restart. What lies
 -- between two ledger calls of a report is what a cut there leaves. Assumes nothing.
-use Rattle.std.specs.Prelude.{◌≡◌, ℕ, suc, ◌<◌, Bool, true, false, cond, ◌⊎◌, List, [], ◌∷◌, ◌++◌, length, take, is_some, is_ok, Some, None, Ok, Err, Option, Result, ◌==◌, ◌≢◌}
+use Rattle.std.specs.Prelude.{◌≡◌, ℕ, suc, ◌<◌, Bool, cond, ◌⊎◌, List, [], ◌∷◌, ◌++◌, length, take, is_ok, Some, None, Ok, Err, Option, Result, ◌==◌, ◌≢◌}
 use Rattle.frame.specs.Frames.{Content}
-use Rattle.orders.specs.Tables.{empty_table}
 use Rattle.turns.specs.Runs.{admit, dismiss, dismiss_all, serve}
 use Rattle.turns.specs.Runs as turns
 use Rattle.sheet.specs.Sheets.{limit_of, sheet_answer, told}
@@ -47,7 +46,7 @@ use Rattle.hub.specs.declared.refusal.OpeningRefusal.{OpeningRefusal}
 use Rattle.hub.specs.declared.refusal.SecondRefusal.{SecondRefusal}
 use Rattle.runs.specs.declared.Allowance.{Allowance}
 use Rattle.runs.specs.declared.Allowance.TheVariants.{Free, One, Spent}
-use Rattle.runs.specs.Worlds.{Taken, Past, Line, still, poll, answer, second, replied, HeardSlot, Mark, Memory, World, put, new_world}
+use Rattle.runs.specs.Worlds.{Taken, Past, Line, still, poll, answer, second, replied, Mark, Memory, World, put, new_world}
 
 -- Calls are handed any number, any bytes, any length of buffer and any pass.
 pub data Event : Type 0 where

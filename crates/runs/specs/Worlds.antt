@@ -13,7 +13,7 @@
 --
 -- Bills have numbers, so that what is said of a bill is not said of another of the same worth. Slot numbers do not wrap.
 -- Assumes nothing.
-use Rattle.std.specs.Prelude.{ℕ, Bool, cond, List, [], Some, None, Option, ◌==◌}
+use Rattle.std.specs.Prelude.{ℕ, cond, List, [], None, Option, ◌==◌}
 use Rattle.frame.specs.Frames.{Content}
 use Rattle.orders.specs.Tables.{Table}
 use Rattle.turns.specs.Runs.{Call}

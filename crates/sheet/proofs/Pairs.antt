@@ -1,7 +1,7 @@
 -- Pairs that are checked one after the other. Assumes nothing.
-use Rattle.std.proofs.Common.{◌≡◌, ℕ, zero, suc, ◌+◌, ◌<◌, Bool, true, false, cond, ◌&&◌, List, [], ◌∷◌, ◌++◌, map, length, get_or, take, set, Some, None, Option, sym, refl, ap, ◌∙◌, subst, arith}
+use Rattle.std.proofs.Common.{◌≡◌, ℕ, zero, suc, ◌+◌, ◌<◌, Bool, true, false, cond, ◌&&◌, List, [], ◌∷◌, ◌++◌, map, length, get_or, take, set, Some, None, Option, refl, ap, ◌∙◌, arith}
 use Rattle.std.proofs.lemmas.List.{take_more}
-use Rattle.sheet.specs.Values.{right_pair, checked_pair}
+use Rattle.sheet.specs.Values.{right_pair}
 use Rattle.sheet.specs.Sheets.{pair, pair_of, right_pairs}
 use Rattle.sheet.specs.declared.denomination.Denomination.{Denomination}
 use Rattle.sheet.specs.declared.sheet.Pair.{Pair}

@@ -1,5 +1,4 @@
 use Rattle.std.proofs.Common.{◌≡◌, None, refl, rules}
-use Rattle.ledger.specs.Held.{Heads}
 use Rattle.reaction.specs.Calls.{called_all, if_called}
 use Rattle.reaction.proofs.calls.make_all.Goals as goal
 use Rattle.reaction.proofs.calls.make_all.Goals.{in-Some, in_default}

@@ -1,6 +1,5 @@
-use Rattle.std.proofs.Common.{◌≡◌, ◌<◌, ◌≤◌, cond, map, length, Ok, Err, sym, ap, ◌∙◌, arith, length-set}
+use Rattle.std.proofs.Common.{◌≤◌, cond, map, length, Ok, Err, sym, ap, ◌∙◌, arith, length-set}
 use Rattle.std.proofs.lemmas.List.{take_all}
-use Rattle.sheet.specs.Values.{right_pair}
 use Rattle.sheet.specs.Sheets.{pair_of, right_pairs}
 use Rattle.sheet.specs.declared.fault.SheetFault.TheVariants.{SheetWrong}
 use Rattle.sheet.proofs.Pairs.{checked_right, checked_wrong, right_more, one_wrong, put_more}

@@ -1,5 +1,5 @@
 use Rattle.sheet.proofs.sheet.check_denominations.Given as goal
-use Rattle.std.proofs.Common.{◌≡◌, ℕ, ◌<◌, true, map, length, take}
+use Rattle.std.proofs.Common.{◌≡◌, true, map, length, take}
 use Rattle.sheet.specs.Sheets.{right_pairs, pair_of}
 
 -- the pairs so far are right, and stand in the checked ones
