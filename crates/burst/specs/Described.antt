@@ -4,7 +4,7 @@
 --   described_found f     the line for a message: kind, command byte and data, place, and why a status does not read
 --   refusal_text k m      the end of such a line, empty but for a status that does not read
 --   kind_word k           the word for a kind
---   Answered line text   what is printed for a line of input: of the burst that it spells, or `bad`
+--   Answered line text    what is printed for a line of input: of the burst that it spells, or `bad`
 --   without_end line      a line of input without the 0AH that ends it
 --
 -- Assumes nothing.

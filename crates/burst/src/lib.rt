@@ -1,4 +1,6 @@
 // What `listen` prints of a burst, the bytes received in one go.
+#![tactic(auto)]
+
 ghost use Rattle.std.specs.Prelude.{◌≡◌, IfOk, string_bytes};
 ghost use Rattle.message.specs.Heard.{found_by};
 ghost use Rattle.message.specs.Kinds.{message_kind, message_content};

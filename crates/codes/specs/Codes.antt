@@ -1,10 +1,10 @@
 -- The command bytes that the hub knows.
 --
---   is_bare, is_detailed, is_complaint     the codes of statuses with no data, with one byte, and of complaints
+--   is_bare, is_detailed, is_complaint    the codes of statuses with no data, with one byte, and of complaints
 --   is_status, is_setting                 the codes of statuses, complaints with them, and of settings
---   data_count c, code_data_count code     how many data bytes go with a status code, by its byte and by the code
---   bare_code and its like               the byte of a code
---   known is b                          b if it is such a code
+--   data_count c, code_data_count code    how many data bytes go with a status code, by its byte and by the code
+--   bare_code and its like                the byte of a code
+--   known is b                            b if it is such a code
 --
 -- Two codes never have the same byte, so that a code is known by its byte. Assumes nothing.
 use Rattle.std.specs.Prelude.{ℕ, Bool, cond, ◌&&◌, ◌||◌, Some, None, Option, ◌==◌, nat_le}

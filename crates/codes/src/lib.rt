@@ -1,4 +1,6 @@
 // The command bytes that the hub knows, by what carries them. Each code stands in one definition, with its number.
+#![tactic(auto)]
+
 mod setting;
 mod status;
 

@@ -1,10 +1,9 @@
 -- A frame is read exactly where one stands: what is written reads as the same message, and what is read writes as
 -- the same bytes. Assumes nothing.
-use Rattle.std.proofs.Common.{◌≡◌, ℕ, zero, suc, ◌+◌, ◌-◌, ◌*◌, ◌/◌, ◌%◌, ◌<◌, ◌≤◌, Bool, true, false, cond, eqb, ltb, List, [], ◌∷◌, ◌++◌, length, get_or, take, drop, Ok, Err, Result, sym, refl, ap, ◌∙◌, subst, arith}
-use Rattle.std.proofs.lemmas.Bool.{ltb-true, ltb-false, eqb-true, le-ltb, eq-eqb}
-use Rattle.std.proofs.lemmas.List.{take_at, drop_at, get_or_at, length-append, length-take-le, length-drop, append_assoc, take_more, drop-take, take-append-drop, get_or-drop, get_or-take, drop_more, drop-drop, get_or-append-add}
-use Rattle.frame_check.specs.Register.{check_of, byte_step}
-use Rattle.frame.specs.declared.fault.FrameFault.{FrameFault}
+use Rattle.std.proofs.Common.{◌≡◌, ℕ, suc, ◌+◌, ◌-◌, ◌*◌, ◌/◌, ◌%◌, ◌<◌, ◌≤◌, Bool, true, false, cond, List, [], ◌∷◌, ◌++◌, length, get_or, take, drop, Ok, Err, Result, sym, refl, ap, ◌∙◌, subst, arith}
+use Rattle.std.proofs.lemmas.Bool.{ltb-false, eqb-true, le-ltb, eq-eqb}
+use Rattle.std.proofs.lemmas.List.{take_at, get_or_at, length-append, length-take-le, length-drop, append_assoc, take_more, take-append-drop, get_or-drop, get_or-append-add}
+use Rattle.frame_check.specs.Register.{check_of}
 use Rattle.frame.specs.Frames.{Content, content, front_answer, read_answer, checked_part, frame_bytes, length_byte, carried_check, StandsAt, Exactly}
 
 -- what makes the bytes begin with a frame that says m

@@ -1,7 +1,7 @@
 -- The numbers of the refusals of reading and writing.
 --
---   frame_fault_number     why a frame was not read
---   write_fault_number     why a frame was not written
+--   frame_fault_number    why a frame was not read
+--   write_fault_number    why a frame was not written
 --
 -- Assumes nothing.
 use Rattle.std.specs.Prelude.{ℕ}

@@ -1,14 +1,14 @@
 -- Frames: their bytes, where one stands, and what reading and writing answer.
 --
---   Content              what a frame says: its command byte and its data
---   frame_bytes m         the bytes of the frame that says m
---   StandsAt bs at m     the frame that says m stands in the bytes bs at a place
---   read_answer bs at     what reading at a place answers: the refusals in their order, or what the frame says
---   Exactly bs at r      r is an answer `Ok m` exactly if the frame that says m stands there
---   write_answer d room   what writing data d into a buffer of a length answers
---   buffer_after m was r  the buffer after a write that answered r: the frame starts it and the rest stays
---   WrittenReads m bs r  what was written reads as the same message
---   told r               what a reader answered, with the data that it borrows as a list
+--   Content                 what a frame says: its command byte and its data
+--   frame_bytes m           the bytes of the frame that says m
+--   StandsAt bs at m        the frame that says m stands in the bytes bs at a place
+--   read_answer bs at       what reading at a place answers: the refusals in their order, or what the frame says
+--   Exactly bs at r         r is an answer `Ok m` exactly if the frame that says m stands there
+--   write_answer d room     what writing data d into a buffer of a length answers
+--   buffer_after m was r    the buffer after a write that answered r: the frame starts it and the rest stays
+--   WrittenReads m bs r     what was written reads as the same message
+--   told r                  what a reader answered, with the data that it borrows as a list
 --
 -- Assumes nothing.
 use Rattle.std.specs.Prelude.{◌≡◌, ℕ, ◌+◌, ◌-◌, ◌*◌, ◌/◌, ◌%◌, ◌≤◌, cond, List, [], ◌∷◌, ◌++◌, length, take, drop, IfOk, Ok, Err, Result, ◌==◌, nat_lt, slice_index}

@@ -1,4 +1,6 @@
 // Frames: FCH, LNG, a command byte, 0 to 250 data bytes, and the check, low byte first. LNG counts all bytes.
+#![tactic(auto)]
+
 ghost use Rattle.std.specs.Prelude.{◌≡◌, length};
 ghost use Rattle.frame.specs.Frames.{Exactly, WrittenReads, content, told, front_answer, read_answer, write_answer, buffer_after};
 

@@ -1,5 +1,5 @@
 -- The check is linear, so that a byte at a time by the table is the same as bit by bit. Assumes nothing.
-use Rattle.std.proofs.Common.{◌≡◌, ℕ, zero, suc, ◌+◌, ◌*◌, ◌/◌, ◌%◌, ◌^◌, ◌<◌, cond, eqb, sym, refl, ap, ◌∙◌, mul-one, div-one, one-add, arith}
+use Rattle.std.proofs.Common.{◌≡◌, ℕ, zero, suc, ◌*◌, ◌/◌, ◌%◌, ◌^◌, ◌<◌, cond, eqb, sym, refl, ap, ◌∙◌, div-one, one-add, arith}
 use lib.Bits.{bit_xor, xor_assoc, xor_comm, xor_mod, xor_shr, xor_shifted, xor_zero_r, shifted_half, shifted_even}
 use Rattle.std.proofs.lemmas.Nat.{shr-shr, shr_split, shl-shr, mod_below}
 use Rattle.frame_check.specs.Register.{bit_step, bit_steps, byte_step, entry_of}
@@ -17,9 +17,9 @@ core (suc zero) (suc (suc q)) h k a b = absurd (omega arith)
 core (suc (suc p)) q h k a b = absurd (omega arith)
 
 -- one bit
-bit_xor_lem : (x b : ℕ) → bit_step (bit_xor x b) 0 ≡ bit_xor (bit_step x (b % 2)) (b / 2)
+bit_step_xor : (x b : ℕ) → bit_step (bit_xor x b) 0 ≡ bit_xor (bit_step x (b % 2)) (b / 2)
 unfolding bit_step
-bit_xor_lem x b =
+bit_step_xor x b =
     rw (xor_mod x b 1, xor_shr x b 1) (core (x % 2) (b % 2) (x / 2) (b / 2) (mod_below x 2 (omega arith)) (mod_below b 2 (omega arith)))
 
 -- n bits
@@ -27,7 +27,7 @@ bits_xor : (n x b : ℕ) → bit_steps n (bit_xor x b) 0 ≡ bit_xor (bit_steps 
 unfolding bit_steps
 bits_xor zero x b = ap (bit_xor x) (sym (div-one b))
 bits_xor (suc n) x b =
-    ap (λ y. bit_steps n y 0) (bit_xor_lem x b) ∙ bits_xor n (bit_step x (b % 2)) (b / 2) ∙ ap (bit_xor (bit_steps n (bit_step x (b % 2)) (b / 2))) (shr-shr b 1 n ∙ ap (λ k. b / 2 ^ k) (one-add n))
+    ap (λ y. bit_steps n y 0) (bit_step_xor x b) ∙ bits_xor n (bit_step x (b % 2)) (b / 2) ∙ ap (bit_xor (bit_steps n (bit_step x (b % 2)) (b / 2))) (shr-shr b 1 n ∙ ap (λ k. b / 2 ^ k) (one-add n))
 
 -- only the low n bits of the data count
 bits_high : (n x h : ℕ) → bit_steps n x (h * 2 ^ n) ≡ bit_steps n x 0

@@ -4,7 +4,7 @@
 --   byte_step reg byte    the register after one byte
 --   bit_step reg bit      the register after one bit: the whole rule
 --   entry_of i            what the table holds at i: the register i after eight data bits 0
---   tabulated i xs       the test that each of xs is the entry of its place, counted from i
+--   tabulated i xs        the test that each of xs is the entry of its place, counted from i
 --
 -- Assumes nothing.
 use Rattle.std.specs.Prelude.{ℕ, zero, suc, ◌/◌, ◌%◌, Bool, true, cond, ◌&&◌, List, [], ◌∷◌, fold, ◌==◌, bit_xor}

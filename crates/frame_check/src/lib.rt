@@ -1,4 +1,6 @@
 // The check of a frame: a register of 16 bits over the bytes, low bit first, a byte at a time by a table.
+#![tactic(auto)]
+
 ghost use Rattle.std.specs.Prelude.{◌≡◌};
 ghost use Rattle.frame_check.specs.Register.{byte_step, check_of};
 

@@ -1,14 +1,14 @@
 -- Bytes as text.
 --
---   digit n              the uppercase digit for a number below 16
---   blanked bs           the bytes as text, a blank and two digits each
---   spelled bs           the same without the first blank: one blank between
---   Bytes bs             each of them is below 256
---   Parsed line r        r is the bytes that the line spells, or no bytes are spelled like this
---   DigitOf, ByteAt      the same of one digit, and of two digits at a place
+--   digit n            the uppercase digit for a number below 16
+--   blanked bs         the bytes as text, a blank and two digits each
+--   spelled bs         the same without the first blank: one blank between
+--   Bytes bs           each of them is below 256
+--   Parsed line r      r is the bytes that the line spells, or no bytes are spelled like this
+--   DigitOf, ByteAt    the same of one digit, and of two digits at a place
 --
 -- Assumes nothing.
-use Rattle.std.specs.Prelude.{◌≡◌, ℕ, suc, ◌+◌, ◌/◌, ◌%◌, ◌<◌, cond, List, [], ◌∷◌, drop, Ok, Err, vec_items, Option, Result, Vec, MatchOption, ◌≢◌, nat_lt, slice_index}
+use Rattle.std.specs.Prelude.{◌≡◌, ℕ, ◌+◌, ◌/◌, ◌%◌, ◌<◌, cond, List, [], ◌∷◌, drop, Ok, Err, vec_items, Option, Result, Vec, MatchOption, ◌≢◌, nat_lt, slice_index}
 use Rattle.std.specs.declared.alloc.Global.{Global}
 use Rattle.hex_text.specs.declared.HexFault.{HexFault}
 use Rattle.hex_text.specs.declared.HexFault.TheVariants.{NotHex, NoMemory}

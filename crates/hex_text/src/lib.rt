@@ -1,4 +1,6 @@
 // Bytes as text: two uppercase hexadecimal digits each, with one blank between.
+#![tactic(auto)]
+
 ghost use Rattle.std.specs.Prelude.{◌≡◌, ◌+◌, ◌%◌, ◌<◌, [], ◌∷◌, ◌++◌, length, IfOk, string_bytes, OnOk};
 ghost use Rattle.hex_text.specs.declared.HexFault.TheVariants.{NoMemory};
 ghost use Rattle.hex_text.specs.Spelled.{DigitOf, ByteAt, Parsed, blanked, digit};

@@ -1,4 +1,6 @@
 // Says what is heard in each burst of a recorded line.
+#![tactic(auto)]
+
 use std::io::{BufRead, BufReader};
 use std::{env, io};
 

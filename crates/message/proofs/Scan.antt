@@ -1,11 +1,11 @@
 -- What a scan over all places says of the message heard. Assumes nothing.
-use Rattle.std.proofs.Common.{◌≡◌, ℕ, ◌+◌, ◌<◌, ◌≤◌, true, false, cond, eqb, List, [], length, get_or, drop, Some, None, Ok, Err, unwrap_or, sym, refl, ap, ◌∙◌, subst, inl, inr, ⊎_elim, add-zero, arith}
+use Rattle.std.proofs.Common.{◌≡◌, ℕ, ◌<◌, cond, List, length, get_or, drop, Some, None, Ok, Err, unwrap_or, sym, refl, ap, ◌∙◌, inl, inr, ⊎_elim, add-zero, arith}
 use Rattle.std.proofs.lemmas.List.{get_or-drop, drop_all}
 use Rattle.std.proofs.lemmas.Bool.{eq-eqb, ne_eqb, cases_lt}
-use Rattle.frame.specs.Frames.{Content, StandsAt, front_answer, read_answer}
+use Rattle.frame.specs.Frames.{Content, StandsAt, read_answer}
 use Rattle.frame.specs.declared.fault.FrameFault.{FrameFault}
 use Rattle.frame.proofs.Round.{stands_reads}
-use Rattle.message.specs.Heard.{Hears, EarliestSync, NoFrameAt, SyncAt, smallest, frame_here, found_from, found_or, found, nothing, sync_here, fault_place, fault_in, hear_answer}
+use Rattle.message.specs.Heard.{Hears, EarliestSync, NoFrameAt, frame_here, found_from, found_or, found, nothing, sync_here, fault_place, fault_in, hear_answer}
 use Rattle.message.proofs.Smallest.{smallest_at, smallest_none}
 
 -- THE EARLIEST SYNC

@@ -1,8 +1,8 @@
 -- What is heard in received bytes, as a relation and computed.
 --
---   Hears bs r           r is the well-formed frame at the smallest place, else the fault at the earliest FCH, else at place 0
+--   Hears bs r            r is the well-formed frame at the smallest place, else the fault at the earliest FCH, else at place 0
 --   hear_answer bs        the same, computed
---   EarliestSync bs at   the first FCH of the bytes is at a place, or there is none and the place is 0
+--   EarliestSync bs at    the first FCH of the bytes is at a place, or there is none and the place is 0
 --   fault_place bs        the same, computed
 --   told_heard r          what `hear` answered, with the data that it borrows as a list
 --   found_by h            the same of a message that was heard

@@ -1,8 +1,8 @@
 -- The kind of a message, by its command byte.
 --
---   kind_of command       which kind a command byte has
---   message_kind m        the kind that a message is given as
---   message_content m     its command byte and its data, borrowed from the received bytes
+--   kind_of command      which kind a command byte has
+--   message_kind m       the kind that a message is given as
+--   message_content m    its command byte and its data, borrowed from the received bytes
 --
 -- Assumes nothing.
 use Rattle.std.specs.Prelude.{ℕ, cond, ◌==◌}

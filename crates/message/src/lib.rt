@@ -1,4 +1,6 @@
 // Messages: the one heard in received bytes, and its kind by its command byte.
+#![tactic(auto)]
+
 mod heard;
 mod kind;
 

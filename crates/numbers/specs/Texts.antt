@@ -1,10 +1,10 @@
 -- Texts, where they are cut, and what reading one answers.
 --
---   front m text           the text before the first byte m
---   rest m text            the text from that byte on, empty where there is none
---   lacks m text           no byte is m
---   opens m text           it is empty, or its first byte is m
---   Spelled P f text r     READING answers r: the text is f of what is read, of which P holds; none where it is f of nothing like this
+--   front m text          the text before the first byte m
+--   rest m text           the text from that byte on, empty where there is none
+--   lacks m text          no byte is m
+--   opens m text          it is empty, or its first byte is m
+--   Spelled P f text r    READING answers r: the text is f of what is read, of which P holds; none where it is f of nothing like this
 --
 -- Assumes nothing.
 use Rattle.std.specs.Prelude.{◌≡◌, ℕ, Bool, true, cond, not, ◌&&◌, List, [], ◌∷◌, Option, MatchOption, ◌==◌, ◌≢◌}

@@ -1,4 +1,6 @@
 // Decimal numbers and words in a line of text.
+#![tactic(auto)]
+
 ghost use Rattle.std.specs.Prelude.{◌≡◌, ℕ, ◌+◌, ◌-◌, ◌*◌, ◌<◌, ◌≤◌, decimal};
 ghost use Rattle.numbers.specs.Texts.{Spelled, front, rest};
 

@@ -1,5 +1,5 @@
 -- What reading answers once the code is known and the data bytes are counted. Assumes nothing.
-use Rattle.std.proofs.Common.{◌≡◌, ℕ, Bool, true, false, cond, eqb, List, [], ◌∷◌, length, get_or, Some, Ok, Err, Result, sym, ap, ◌∙◌, arith}
+use Rattle.std.proofs.Common.{◌≡◌, ℕ, Bool, false, cond, eqb, List, [], ◌∷◌, length, get_or, Some, Ok, Err, Result, sym, ap, ◌∙◌, arith}
 use Rattle.std.proofs.lemmas.Bool.{eq-eqb, ne_eqb}
 use Rattle.codes.specs.Codes.{data_count, is_status, is_complaint, known, bare_code, detailed_code, status_code}
 use Rattle.codes.specs.declared.status.BareCode.{BareCode}

@@ -1,9 +1,9 @@
 -- Which message is a status.
 --
---   status_answer c d     what reading answers for a command byte and data: the refusals in their order, or the status
---   status_byte s         the code of a status
---   status_data s         its data
---   told r               what reading answered, a status by its code and data, which determine it
+--   status_answer c d      what reading answers for a command byte and data: the refusals in their order, or the status
+--   status_byte s          the code of a status
+--   status_data s          its data
+--   told r                 what reading answered, a status by its code and data, which determine it
 --   status_fault_number    the numbers of the refusals
 --
 -- Assumes nothing.

@@ -1,4 +1,6 @@
 // The status that a head tells, read from a message's command byte and data.
+#![tactic(auto)]
+
 ghost use Rattle.std.specs.Prelude.{◌≡◌};
 ghost use Rattle.std.specs.Option.{option_to_list};
 ghost use Rattle.status.specs.Statuses.{status_answer, status_byte, status_data, status_fault_number, told};

@@ -1,9 +1,9 @@
 -- Worked cases, with the frames that the text of ID-003 prints.
 --
---   WorkedCases          all of them
+--   WorkedCases    all of them
 --
 -- Assumes nothing.
-use Rattle.std.specs.Prelude.{◌≡◌, List, [], ◌∷◌, Ok, Err}
+use Rattle.std.specs.Prelude.{◌≡◌, [], ◌∷◌, Ok, Err}
 use Rattle.frame.specs.Frames.{content, read_answer}
 use Rattle.frame.specs.declared.fault.FrameFault.TheVariants.{TooShort, CheckDiffers}
 use Rattle.message.specs.Heard.{found, hear_answer}

@@ -1,4 +1,6 @@
 // Examples from outside this repository: proved of the definitions, and run through the code.
+#![tactic(auto)]
+
 ghost use Rattle.vectors.specs.WorkedCases.{WorkedCases};
 
 #[cfg(test)]

@@ -1,6 +1,5 @@
 // The frames and the register trace that the text of ID-003 prints, and each refusal of the line at its edge.
 use frame::{FrameFault, WriteFault};
-use frame_check::check;
 use message::hear;
 use status::StatusFault;
 use std::test::Fail;

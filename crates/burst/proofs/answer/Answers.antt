@@ -9,7 +9,7 @@ one_burst : (line text bytes : List ℕ) → Bytes bytes → line ≡ spelled by
 one_burst line text bytes fit is e =
     (λ bs fits spells. e ∙ ap described_burst (same_spelled bytes bs fit fits (sym is ∙ spells)), λ none. absurd (none bytes fit is))
 
-pub returns-in_ok-text : goal.returns-in_ok-text
-returns-in_ok-text c =
+pub returns-in_ok-text-in-Ok : goal.returns-in_ok-text-in-Ok
+returns-in_ok-text-in-Ok c =
     let parsed = c.in-Ok.ensures in
-    one_burst _ _ _ parsed.0 parsed.1 (c.in_ok-text.ensures ∙ ap described_burst c.as_slice.ensures.value)
+    one_burst _ _ _ parsed.0 parsed.1 (c.in_ok-text-in-Ok.ensures ∙ ap described_burst c.as_slice.ensures.value)

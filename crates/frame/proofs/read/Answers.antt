@@ -1,6 +1,6 @@
-use Rattle.std.proofs.Common.{◌≡◌, ◌≤◌, length, sym, ap, ◌∙◌, subst, arith}
+use Rattle.std.proofs.Common.{◌≤◌, length, sym, ap, ◌∙◌, subst, arith}
 use Rattle.std.proofs.lemmas.List.{take_rest, drop_all}
-use Rattle.frame.specs.Frames.{Exactly, front_answer, told}
+use Rattle.frame.specs.Frames.{Exactly, front_answer}
 use Rattle.frame.proofs.Round.{exactly}
 use Rattle.frame.proofs.read.Goals as goal
 

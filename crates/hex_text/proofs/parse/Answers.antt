@@ -1,4 +1,4 @@
-use Rattle.std.proofs.Common.{◌≡◌, ℕ, ◌+◌, ◌-◌, ◌*◌, ◌/◌, ◌<◌, ◌≤◌, List, [], ◌∷◌, length, get_or, vec_items, sym, ap, ◌∙◌, subst, arith}
+use Rattle.std.proofs.Common.{◌≡◌, ℕ, ◌-◌, ◌*◌, ◌<◌, List, [], ◌∷◌, length, get_or, vec_items, sym, ap, ◌∙◌, subst, arith}
 use Rattle.std.proofs.lemmas.Bool.{eqb-true, eqb-false}
 use Rattle.hex_text.specs.Spelled.{Bytes, blanked, spelled}
 use Rattle.hex_text.proofs.Groups.{groups, blank_before, digits_at, byte_more, all_read, bytes_push}
@@ -55,7 +55,7 @@ loop-k-preserved c =
     in
     let found = c.in-Some.ensures in
     let items = vec_items c.loop-k.bytes in
-    let push = c.in_ok-push.ensures.items in
+    let push = c.in_ok-push-in-Some.ensures.items in
     let all = bytes_push items c.in-Some.byte c.loop-k.invariant.0 found.0 in
     (subst Bytes (sym push) all, byte_more line items k c.in-Some.byte (omega arith) blank found.1 c.loop-k.invariant.1 ∙ ap blanked (sym push))
 

@@ -1,8 +1,7 @@
-use Rattle.std.proofs.Common.{◌≡◌, ℕ, List, Ok, Err, Result, sym, refl, ap, ◌∙◌, subst, arith, below_more}
+use Rattle.std.proofs.Common.{◌≡◌, ℕ, Ok, sym, refl, ap, ◌∙◌, subst, arith, below_more}
 use Rattle.frame.specs.Frames.{Content, content_of}
 use Rattle.message.specs.Kinds.{Kind, kind_of}
 use Rattle.message.specs.Heard.{Found, Hears, found}
-use Rattle.message.specs.declared.heard.NothingHeard.{NothingHeard}
 use Rattle.message.proofs.Scan.{unread, frame_first, never_read, frame_nowhere}
 use Rattle.message.proofs.heard.hear.Goals as goal
 

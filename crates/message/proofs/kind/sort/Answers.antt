@@ -1,4 +1,4 @@
-use Rattle.std.proofs.Common.{◌≡◌, cond, eqb, sym, refl, ap}
+use Rattle.std.proofs.Common.{cond, eqb, sym, ap}
 use Rattle.codes.specs.Codes.{is_status, is_setting}
 use Rattle.codes.proofs.Known.{known_as}
 use Rattle.frame.specs.Frames.{content}

@@ -1,4 +1,3 @@
-use Rattle.std.proofs.Common.{◌≡◌, true, Some, sym}
 use Rattle.codes.specs.Codes.{is_bare}
 use Rattle.codes.proofs.Known.{known_as}
 use Rattle.codes.proofs.status.StatusCode.from_byte.Goals as goal
