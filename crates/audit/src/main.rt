@@ -1,4 +1,6 @@
 // Tells from the memory image of a drawer what it holds for each head: whether a box count closes.
+#![tactic(auto)]
+
 use audit_report::count::read_count;
 use audit_report::line::Refusal;
 use audit_report::report::report;

@@ -1,4 +1,6 @@
 // What the program `audit` reads and prints.
+#![tactic(auto)]
+
 pub mod count;
 pub mod line;
 pub mod report;

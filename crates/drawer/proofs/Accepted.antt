@@ -1,5 +1,5 @@
 -- The three calls, when they are accepted. Assumes nothing.
-use Rattle.std.proofs.Common.{◌≡◌, ℕ, suc, ◌+◌, ◌-◌, ◌*◌, ◌<◌, ◌≤◌, true, false, cond, eqb, ltb, ◌⊎◌, List, length, is_some, Some, None, Ok, sym, refl, ap, ◌∙◌, ap₂, ⊎_elim, arith}
+use Rattle.std.proofs.Common.{◌≡◌, ℕ, suc, ◌+◌, ◌-◌, ◌*◌, ◌<◌, ◌≤◌, true, false, cond, eqb, ltb, List, length, is_some, Some, None, Ok, sym, refl, ap, ◌∙◌, ap₂, ⊎_elim, arith}
 use Rattle.std.proofs.lemmas.Bool.{eq-eqb, ne_eqb, eqb-true, ltb-true, or_cases}
 use Rattle.ledger.specs.Held.{heads, most_amount, Held, with_head, promising, settling, giving_back}
 use Rattle.ledger.specs.Answers.{promise_answer, end_answer, promised_after, settled_after, given_back_after}

@@ -1,5 +1,5 @@
 -- Sections of which no field changed, and places of fields. Assumes nothing.
-use Rattle.std.proofs.Common.{◌≡◌, ℕ, zero, suc, ◌+◌, ◌-◌, ◌*◌, ◌<◌, ◌≤◌, cond, ◌&&◌, ◌||◌, eqb, leb, ◌≢◌, List, refl, ap, ap₂, mul-le-mul_left, mul-add, arith}
+use Rattle.std.proofs.Common.{◌≡◌, ℕ, zero, suc, ◌+◌, ◌*◌, ◌<◌, ◌≤◌, cond, ◌&&◌, ◌||◌, eqb, leb, ◌≢◌, List, refl, ap, ap₂, mul-le-mul_left, mul-add, arith}
 use Rattle.std.specs.Option.{option_or}
 use Rattle.ledger.specs.Held.{most_amount}
 use Rattle.drawer_image.specs.Fields.{is_promise, is_settled, is_free}

@@ -1,5 +1,5 @@
 -- What a drawer holds after a call wrote into it, and that it still passes the check. Assumes nothing.
-use Rattle.std.proofs.Common.{◌≡◌, ℕ, suc, ◌+◌, ◌-◌, ◌*◌, ◌<◌, ◌≤◌, true, cond, not, ◌&&◌, eqb, ltb, ◌≢◌, ◌⊎◌, List, length, is_some, None, sym, ap, ◌∙◌, ap₂, ⊎_elim, arith}
+use Rattle.std.proofs.Common.{◌≡◌, ℕ, suc, ◌+◌, ◌-◌, ◌*◌, ◌<◌, ◌≤◌, true, cond, not, ◌&&◌, eqb, ltb, ◌≢◌, List, length, is_some, None, sym, ap, ◌∙◌, ap₂, ⊎_elim, arith}
 use mathlib.Core.Path.{fun_ext}
 use Rattle.std.proofs.lemmas.Bool.{cond-true, cond-false, or_left, or_right, lt-ltb, eq-eqb, ne_eqb, cases_eq, cases_lt}
 use Rattle.ledger.specs.Held.{heads, most_amount, with_head}

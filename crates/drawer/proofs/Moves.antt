@@ -9,7 +9,6 @@ use Rattle.drawer.specs.Writes.{put_amount, put_settled}
 use Rattle.drawer_image.specs.Sections.{free_in, credited_in, bad_in, unless, section_of}
 use Rattle.drawer_image.proofs.Lawful.{promise_good}
 use Rattle.drawer_image.proofs.Walks.{bad_more, free_none, after_free, after_settled}
-use Rattle.drawer_image.proofs.Earliest.{room}
 use Rattle.drawer.proofs.Puts.{Same, tag_kept, length_kept, amount_same, put_other, settled_other, settled_tag, settled_length, settled_amount}
 use Rattle.drawer.proofs.Frames.{same_free, same_promise, free_frame, sum_frame, bad_frame}
 

@@ -1,5 +1,5 @@
 -- What a written amount or bill leaves of each field. Assumes nothing.
-use Rattle.std.proofs.Common.{◌≡◌, ℕ, ◌+◌, ◌-◌, ◌*◌, ◌^◌, ◌<◌, ◌≤◌, ◌≢◌, ◌⊎◌, List, length, get_or, set, ◌∙◌, ap₂, arith, length-set, get_or-set_other, get_or-set_same}
+use Rattle.std.proofs.Common.{◌≡◌, ℕ, ◌+◌, ◌*◌, ◌^◌, ◌<◌, ◌≤◌, ◌≢◌, ◌⊎◌, List, length, get_or, set, ◌∙◌, ap₂, arith, length-set, get_or-set_other, get_or-set_same}
 use Rattle.drawer_image.specs.Fields.{tag_at, length_at, amount_at}
 use Rattle.drawer.specs.Writes.{put_amount, put_settled}
 

@@ -1,4 +1,6 @@
 // The ledger that lies in its caller's bytes, whose layout and check `drawer_image` has.
+#![tactic(auto)]
+
 ghost use Rattle.std.specs.Prelude.{◌≡◌, ℕ, ◌+◌, ◌-◌, ◌*◌, ◌<◌, ◌≤◌, length, is_ok, if◌then◌else◌};
 ghost use Rattle.ledger.specs.Answers.{question, promise_answer, end_answer, promised_after, settled_after, given_back_after};
 ghost use Rattle.drawer_image.specs.Checks.{checked, section_at};

@@ -1,4 +1,6 @@
 // Calls made on a drawer, alone or at the bottom of a pile, and what its bytes are afterwards.
+#![tactic(auto)]
+
 ghost use Rattle.std.specs.Prelude.{◌≡◌, ℕ, ◌+◌, ◌<◌, ◌≤◌, false, is_ok, Ok};
 ghost use Rattle.ledger_calls.specs.Calls.{after_all};
 ghost use Rattle.ledger_calls.specs.Books.{journal, accepted_in};

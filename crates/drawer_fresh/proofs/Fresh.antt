@@ -3,7 +3,7 @@ use Rattle.std.proofs.Common.{◌≡◌, ℕ, zero, suc, ◌+◌, ◌-◌, ◌*�
 use Rattle.std.proofs.lemmas.List.{get_or_append_left, get_or-append_right}
 use Rattle.std.proofs.lemmas.Bool.{cond-true, lt-ltb}
 use Rattle.ledger.specs.Held.{heads, most_amount, most_places, nothing}
-use Rattle.drawer_image.specs.Fields.{tag_at, length_at, amount_at, is_promise, is_free_lem}
+use Rattle.drawer_image.specs.Fields.{tag_at, length_at, amount_at, is_promise, is_free}
 use Rattle.drawer_image.specs.Sections.{promise_of, free_in, credited_in, bad_in, unless, section_of, covered}
 use Rattle.drawer_image.proofs.Walks.{free_none, sum_none, bad_none, after_free}
 use Rattle.drawer_image.proofs.Passed.{sounds_passes}
@@ -54,15 +54,15 @@ empty_by bs j t e =
 empty_promise : (k h : ℕ) → h < heads → Empty (fresh_bytes k) (promise_of k h) 0x50
 empty_promise k h lt = empty_by (fresh_bytes k) (promise_of k h) 0x50 (λ o lo. promise_byte k h o lt lo)
 
-is_promise_lem : (k h : ℕ) → h < heads → is_promise (fresh_bytes k) (promise_of k h) ≡ true
+fresh_promise : (k h : ℕ) → h < heads → is_promise (fresh_bytes k) (promise_of k h) ≡ true
 unfolding is_promise
-is_promise_lem k h lt =
+fresh_promise k h lt =
     let e = empty_promise k h lt in
     ap₂ (λ x y. x && leb y most_amount) (ap₂ (λ x y. eqb x 0x50 && eqb y 4) e.tag e.len) e.amount
 
-is_free_lem : (k h n : ℕ) → h < heads → n < k → is_free_lem (fresh_bytes k) (promise_of k h + n + 1) ≡ true
-unfolding is_free_lem
-is_free_lem k h n lt ln =
+fresh_free : (k h n : ℕ) → h < heads → n < k → is_free (fresh_bytes k) (promise_of k h + n + 1) ≡ true
+unfolding is_free
+fresh_free k h n lt ln =
     let e = empty_by (fresh_bytes k) (promise_of k h + n + 1) 0x00 (λ o lo. bill_byte k h n o lt ln lo) in
     ap₂ (λ x y. x && eqb y 0) (ap₂ (λ x y. eqb x 0x00 && eqb y 4) e.tag e.len) e.amount
 
@@ -73,10 +73,10 @@ Free k h n = (bad_in (fresh_bytes k) (promise_of k h) n ≡ None) × (free_in (f
 all_free : (k h n : ℕ) → h < heads → n ≤ k → Free k h n
 unfolding Free
 all_free k h zero lt le =
-    (bad_none (fresh_bytes k) (promise_of k h) ∙ ap (λ x. unless x (promise_of k h)) (is_promise_lem k h lt), free_none (fresh_bytes k) (promise_of k h), sum_none (fresh_bytes k) (promise_of k h))
+    (bad_none (fresh_bytes k) (promise_of k h) ∙ ap (λ x. unless x (promise_of k h)) (fresh_promise k h lt), free_none (fresh_bytes k) (promise_of k h), sum_none (fresh_bytes k) (promise_of k h))
 all_free k h (suc n) lt le =
     let ih = all_free k h n lt (omega arith) in
-    let s = after_free (fresh_bytes k) (promise_of k h) n ih.0 (is_free_lem k h n lt (omega arith)) in
+    let s = after_free (fresh_bytes k) (promise_of k h) n ih.0 (fresh_free k h n lt (omega arith)) in
     let z : n + 1 ≡ suc n = omega arith in (
       ap (bad_in (fresh_bytes k) (promise_of k h)) (sym z) ∙ s.0,
       ap (free_in (fresh_bytes k) (promise_of k h)) (sym z) ∙ s.1 ∙ omega (arith, ih.1),

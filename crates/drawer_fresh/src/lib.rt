@@ -1,4 +1,6 @@
 // Fresh bytes for a drawer.
+#![tactic(auto)]
+
 ghost use Rattle.std.specs.Prelude.{◌≡◌, ℕ, ◌+◌, ◌*◌, ◌<◌, ◌≤◌, ◌++◌, length, take, is_ok, if◌then◌else◌, MatchResult};
 ghost use Rattle.ledger.specs.Held.{most_places};
 ghost use Rattle.drawer_image.specs.Checks.{size_answer};

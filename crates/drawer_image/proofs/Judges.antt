@@ -7,7 +7,7 @@ use Rattle.std.specs.Option.{option_or}
 use Rattle.drawer_image.specs.declared.fault.DrawerFault.TheVariants.{BadCount, BadLength}
 use Rattle.drawer_image.specs.Fields.{amount_at, is_promise, is_settled, is_free}
 use Rattle.drawer_image.specs.Sections.{promise_of, free_in, bad_in, allowed, unless, covered, section_of}
-use Rattle.drawer_image.specs.Checks.{count_fits_lem, earliest, bad_of, uncovered_of, refused_at, checked}
+use Rattle.drawer_image.specs.Checks.{count_fits, earliest, bad_of, uncovered_of, refused_at, checked}
 use Rattle.drawer_image.specs.Judged.{Allowed, AllAllowed, Uncovered, EarliestBad, EarliestUncovered, Counted, Long, Judged}
 use Rattle.drawer_image.proofs.Earliest.{unless_none, option_parts, earliest_each, earliest_first}
 
@@ -121,8 +121,8 @@ uncovered_by bs k h u =
     or_from (eqb (amount_at bs (promise_of k h)) 0) (ltb 0 (free_in bs (promise_of k h) k))
     (ne_eqb (amount_at bs (promise_of k h)) 0 (λ e. omega (arith, u.0))) (le-ltb 0 (free_in bs (promise_of k h) k) (omega arith))
 
-is_covered_lem : (bs : List ℕ) (k h : ℕ) → uncovered_of bs k h ≡ None → Uncovered bs k h → ⊥
-is_covered_lem bs k h e u = both_ways (covered (section_of bs (promise_of k h) k)) (uncovered_by bs k h u) (unless_none (covered (section_of bs (promise_of k h) k)) (promise_of k h) e)
+not_uncovered : (bs : List ℕ) (k h : ℕ) → uncovered_of bs k h ≡ None → Uncovered bs k h → ⊥
+not_uncovered bs k h e u = both_ways (covered (section_of bs (promise_of k h) k)) (uncovered_by bs k h u) (unless_none (covered (section_of bs (promise_of k h) k)) (promise_of k h) e)
 
 earliest_uncovered : (bs : List ℕ) (k place : ℕ) → earliest (uncovered_of bs k) heads ≡ Some place → EarliestUncovered bs k place
 earliest_uncovered bs k place e =
@@ -133,25 +133,25 @@ earliest_uncovered bs k place e =
       inside = omega (arith, s.below);
       here = p.1;
       uncovered = is_uncovered bs k s.at p.0;
-      before = λ h lt. is_covered_lem bs k h (s.before h lt);
+      before = λ h lt. not_uncovered bs k h (s.before h lt);
     }
 
 all_allowed : (bs : List ℕ) (k : ℕ) → earliest (bad_of bs k) heads ≡ None → AllAllowed bs k
 all_allowed bs k e h i le li = good_each bs (promise_of k h) k (earliest_each (bad_of bs k) heads e h (omega arith)) i li
 
-count_fits_lem : (k : ℕ) → Counted k → count_fits_lem k ≡ true
-count_fits_lem k c = and_from (ltb 0 k) (leb k most_places) (lt-ltb 0 k c.0) (le-leb k most_places c.1)
+counted_fits : (k : ℕ) → Counted k → count_fits k ≡ true
+counted_fits k c = and_from (ltb 0 k) (leb k most_places) (lt-ltb 0 k c.0) (le-leb k most_places c.1)
 
-fits_count : (k : ℕ) → count_fits_lem k ≡ true → Counted k
+fits_count : (k : ℕ) → count_fits k ≡ true → Counted k
 fits_count k e = let p = and_parts (ltb 0 k) (leb k most_places) e in (ltb-true 0 k p.0, leb-true k most_places p.1)
 
 -- the whole of it
 pub judged : (bs : List ℕ) (k : ℕ) → Judged bs k (checked bs k)
-judged bs k = go (count_fits_lem k) refl (eqb (length bs) (98 * (k + 1))) refl (earliest (bad_of bs k) heads) refl (earliest (uncovered_of bs k) heads) refl
+judged bs k = go (count_fits k) refl (eqb (length bs) (98 * (k + 1))) refl (earliest (bad_of bs k) heads) refl (earliest (uncovered_of bs k) heads) refl
   where
-    go : (x : Bool) → count_fits_lem k ≡ x → (y : Bool) → eqb (length bs) (98 * (k + 1)) ≡ y → (o : Option ℕ) → earliest (bad_of bs k) heads ≡ o → (q : Option ℕ) → earliest (uncovered_of bs k) heads ≡ q
+    go : (x : Bool) → count_fits k ≡ x → (y : Bool) → eqb (length bs) (98 * (k + 1)) ≡ y → (o : Option ℕ) → earliest (bad_of bs k) heads ≡ o → (q : Option ℕ) → earliest (uncovered_of bs k) heads ≡ q
         → Judged bs k (cond x (cond y (refused_at (option_or o q)) (Err (BadLength its_number))) (Err (BadCount its_number)))
-    go false ex y ey o eo q eq = λ c. both_ways (count_fits_lem k) ex (count_fits_lem k c)
+    go false ex y ey o eo q eq = λ c. both_ways (count_fits k) ex (counted_fits k c)
     go true ex false ey o eo q eq = (fits_count k ex, λ (l : Long bs k). both_ways (eqb (length bs) (98 * (k + 1))) ey (eq-eqb (length bs) (98 * (k + 1)) l))
     go true ex true ey (Some place) eo q eq = (fits_count k ex, eqb-true (length bs) (98 * (k + 1)) ey, inl (earliest_bad bs k place eo))
     go true ex true ey None eo (Some place) eq = (fits_count k ex, eqb-true (length bs) (98 * (k + 1)) ey, inr (all_allowed bs k eo, earliest_uncovered bs k place eq))
@@ -160,5 +160,5 @@ judged bs k = go (count_fits_lem k) refl (eqb (length bs) (98 * (k + 1))) refl (
           counted = fits_count k ex;
           long = eqb-true (length bs) (98 * (k + 1)) ey;
           allowed = all_allowed bs k eo;
-          covered = λ h le. is_covered_lem bs k h (earliest_each (uncovered_of bs k) heads eq h (omega arith));
+          covered = λ h le. not_uncovered bs k h (earliest_each (uncovered_of bs k) heads eq h (omega arith));
         }

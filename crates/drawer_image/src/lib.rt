@@ -4,6 +4,8 @@
 // first. A drawer has fourteen sections, one for each head, in order. A section is one field for the promised
 // amount (tag 50H, amount 0 for none), then the same number of fields for bills in every section: first the
 // settled bills (tag 43H) in order of settling, then the free fields (tag 00H, amount 0).
+#![tactic(auto)]
+
 pub mod check;
 pub mod fault;
 mod field;

@@ -1,5 +1,7 @@
 // Tests of the drawer, its bytes, its check and its audit: each refusal at its edge, each kind of bad field with its
 // place, the order of refusals, and piles over a drawer.
+#![tactic(auto)]
+
 #[cfg(test)]
 mod audits;
 #[cfg(test)]

@@ -9,6 +9,7 @@ use layers::tally::Tally;
 use ledger::LedgerFault;
 use ledger_calls::{Call, HeadCall};
 use number::Number;
+use std::test::Fail;
 
 // Head 0 fills its two fields below a limit of three, head 1 spends its limit of one.
 #[test]

@@ -3,7 +3,6 @@ use ledger::{Ledger, LedgerFault};
 use ledger_calls::{Call, make_call};
 use number::Number;
 use std::process::Abort;
-use std::test::Fail;
 
 pub const NO_SUCH_HEAD: LedgerFault = LedgerFault::NoSuchHead(Number);
 

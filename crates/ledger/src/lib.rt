@@ -1,6 +1,8 @@
 // A ledger keeps the money of fourteen heads: what a head's bill in escrow was promised, what was credited, and
 // how many places are free in its cash box. The trait says all that may be relied on; `table` is the plainest
 // ledger there is.
+#![tactic(auto)]
+
 ghost use Rattle.std.specs.Prelude.{◌≡◌, ℕ, ◌≤◌};
 ghost use Rattle.ledger.specs.Held.{heads, Heads, nothing, Within, Amount};
 ghost use Rattle.ledger.specs.Starts.{start_fault_number};

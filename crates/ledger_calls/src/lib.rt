@@ -1,4 +1,6 @@
 // The calls that change a ledger as values, and making many of them in order.
+#![tactic(auto)]
+
 ghost use Rattle.std.specs.Prelude.{◌≡◌, ℕ};
 ghost use Rattle.ledger.specs.Held.{Within};
 ghost use Rattle.ledger_calls.specs.Calls.{call_answer, call_after, after_all};

@@ -2,6 +2,7 @@
 use crate::script::*;
 use ledger::{LedgerFault, StartFault};
 use number::Number;
+use std::test::Fail;
 
 #[test]
 fn faults_tell_their_numbers(rt: HostRuntime) -> Result<(), Fail> {

@@ -1,4 +1,6 @@
 // Tests of the table, the limit and the tally: each refusal at its edge, the order of refusals, and piles.
+#![tactic(auto)]
+
 #[cfg(test)]
 mod calls;
 #[cfg(test)]

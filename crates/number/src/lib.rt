@@ -3,6 +3,8 @@
 // A case that holds nothing shows its number as its discriminant, `Short = 1`. A case that holds something
 // cannot have a discriminant, so it holds a `Number` as well, `NoPlace(Number<24>, u32)`: the definition of
 // the enum then shows the number all the same, and no value of the case can have another.
+#![tactic(auto)]
+
 ghost use Rattle.std.specs.Prelude.{◌≡◌};
 
 #[derive(Clone, Copy, Debug, PartialEq, Eq)]
