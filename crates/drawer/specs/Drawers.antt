@@ -1,10 +1,10 @@
 -- What a drawer holds, and what no call on it changes.
 --
---   drawer_held d         what is held for each head
---   drawer_keeps d e      what every call that makes e of d leaves: the buffer, the number of fields for bills, that the
---                        bytes pass the check, and all of the bytes where the number is 0, so that the check refused them
+--   drawer_held d      what is held for each head
+--   drawer_keeps d e   what every call that makes e of d leaves: the buffer, the number of fields for bills, that the
+--                      bytes pass the check, and all of the bytes where the number is 0, so that the check refused them
 --   drawer_beyond, drawer_within, drawer_amounts, drawer_stays, drawer_joins
---                        the facts that every ledger shows: nothing beyond the heads, the bound, the amounts, and the laws of keeping
+--                      the facts that every ledger shows: nothing beyond the heads, the bound, the amounts, and the laws of keeping
 --
 -- Assumes nothing.
 use Rattle.std.specs.Prelude.{◌≡◌, ℕ, ◌-◌, ◌≤◌, Bool, true, false, cond, Some, None, ◌==◌, ◌≢◌, refl}

@@ -1,9 +1,9 @@
 -- What the bytes of a drawer with k fields for bills in each section hold for each head.
 --
---   held_in s             what a section says of its head
---   documented bs k      THE DOCUMENTED MEANING of bytes that pass the check: for each head what its section says
---   bytes_held bs k       the meaning of any bytes: a section that would not pass the check holds nothing
---   made bs k            what a drawer made of bytes holds: their documented meaning, or nothing if they are refused
+--   held_in s         what a section says of its head
+--   documented bs k   THE DOCUMENTED MEANING of bytes that pass the check: for each head what its section says
+--   bytes_held bs k   the meaning of any bytes: a section that would not pass the check holds nothing
+--   made bs k         what a drawer made of bytes holds: their documented meaning, or nothing if they are refused
 --
 -- Assumes nothing.
 use Rattle.std.specs.Prelude.{ℕ, cond, List, is_ok, nat_lt}

@@ -5,7 +5,7 @@
 --   next_free bs k h            the first free field of section h: the settled bills stand before it
 --   promised_bytes bs k h a r   the bytes after a promise of a for head h that is answered r
 --   settled_bytes bs k h r      the bytes after settling: the bill is written first, then 0 into the promise
---   given_back_bytes bs k h r    the bytes after giving back
+--   given_back_bytes bs k h r   the bytes after giving back
 --
 -- A call refused leaves the bytes as they are. Assumes nothing.
 use Rattle.std.specs.Prelude.{ℕ, ◌+◌, ◌-◌, ◌*◌, ◌/◌, ◌%◌, cond, List, is_ok, slice_set}

@@ -1,7 +1,7 @@
 -- A limit over a tally over a drawer.
 --
---   pile_held starts t      what such a pile holds at first: as the drawer, which holds t, but with no more places than
---                          the accepted starts of the limit
+--   pile_held starts t   what such a pile holds at first: as the drawer, which holds t, but with no more places than
+--                        the accepted starts of the limit
 --
 -- Assumes nothing.
 use Rattle.std.specs.Prelude.{ℕ, List, slice_index}

@@ -1,10 +1,10 @@
 -- Fresh bytes of a drawer with k fields for bills in each section: nothing is promised, every field for a bill is free.
 --
---   empty_field t         a field with the tag t, the length 4 and the amount 0
---   repeated n xs        n times xs, one after the other
---   fresh_section k       a promise of nothing, and k free fields
---   fresh_bytes k         fourteen such sections
---   HoldsFresh bs k      bytes that pass the check, with k places and nothing promised or credited for each head
+--   empty_field t     a field with the tag t, the length 4 and the amount 0
+--   repeated n xs     n times xs, one after the other
+--   fresh_section k   a promise of nothing, and k free fields
+--   fresh_bytes k     fourteen such sections
+--   HoldsFresh bs k   bytes that pass the check, with k places and nothing promised or credited for each head
 --
 -- Assumes nothing.
 use Rattle.std.specs.Prelude.{◌≡◌, ℕ, zero, suc, ◌<◌, List, [], ◌∷◌, ◌++◌, None}

@@ -1,13 +1,13 @@
 -- The check of a drawer's bytes, and what each section of any bytes holds.
 --
---   count_fits k            k is 1 to 4,000
---   count_answer k          26 if k is not
---   size_answer n k         the answer to a length of n bytes: 26, 27 if it is not 98 × (k + 1)
---   wrong_field bs k        the place of the earliest bad field, else of the earliest promise that has no free field
---   checked bs k           the check's answer
---   Passes bs k            the bytes pass the check
---   sound bs b k           no field of the section of promise b is bad, and a promised amount has a free field
---   section_at bs k h       what section h holds: what it says if it is sound, else nothing
+--   count_fits k        k is 1 to 4,000
+--   count_answer k      26 if k is not
+--   size_answer n k     the answer to a length of n bytes: 26, 27 if it is not 98 × (k + 1)
+--   wrong_field bs k    the place of the earliest bad field, else of the earliest promise that has no free field
+--   checked bs k        the check's answer
+--   Passes bs k         the bytes pass the check
+--   sound bs b k        no field of the section of promise b is bad, and a promised amount has a free field
+--   section_at bs k h   what section h holds: what it says if it is sound, else nothing
 --
 -- Assumes nothing.
 use Rattle.std.specs.Prelude.{◌≡◌, ℕ, zero, suc, ◌+◌, ◌*◌, Bool, cond, not, ◌&&◌, List, length, is_some, Some, None, Ok, Err, Option, Result, ◌==◌, nat_le, nat_lt}

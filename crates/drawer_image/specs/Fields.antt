@@ -1,12 +1,12 @@
 -- The fields of a drawer's bytes: seven bytes each, field j from byte 7 j on.
 --
---   tag_at bs j           the tag of field j, one byte
---   length_at bs j        its length, two bytes, low byte first
---   amount_at bs j        its amount, four bytes, low byte first
---   headed bs j t        it has the tag t, and the length 4
---   is_promise bs j       it is a promise: tag 50H, length 4, amount 0 to 255,000,000
---   is_settled bs j       it is a settled bill: tag 43H, length 4, amount 1 to 255,000,000
---   is_free bs j          it is free: tag 00H, length 4, amount 0
+--   tag_at bs j       the tag of field j, one byte
+--   length_at bs j    its length, two bytes, low byte first
+--   amount_at bs j    its amount, four bytes, low byte first
+--   headed bs j t     it has the tag t, and the length 4
+--   is_promise bs j   it is a promise: tag 50H, length 4, amount 0 to 255,000,000
+--   is_settled bs j   it is a settled bill: tag 43H, length 4, amount 1 to 255,000,000
+--   is_free bs j      it is free: tag 00H, length 4, amount 0
 --
 -- Assumes nothing.
 use Rattle.std.specs.Prelude.{ℕ, ◌+◌, ◌*◌, Bool, ◌&&◌, List, ◌==◌, nat_le, slice_index}

@@ -1,15 +1,15 @@
 -- The sections of a drawer with k fields for bills in each: section h is its promise, field (k + 1) h, and the
 -- k fields behind it.
 --
---   promise_of k h          the number of section h's promise field
---   free_in bs b n          how many of the n fields behind field b are free
---   credited_in bs b n      the sum of the settled bills among them
---   section_of bs b k       what the section says whose promise is field b
---   covered s              a promised amount has a free field
---   promised_in s           the promised amount, or none
---   places_in s             the places: the free fields, less 1 if an amount is promised
---   bad_in bs b n           the place of the earliest bad field among the promise b and n fields behind it
---   read_of bad s           a section as it is read: what it says, or the place of a bad field
+--   promise_of k h       the number of section h's promise field
+--   free_in bs b n       how many of the n fields behind field b are free
+--   credited_in bs b n   the sum of the settled bills among them
+--   section_of bs b k    what the section says whose promise is field b
+--   covered s            a promised amount has a free field
+--   promised_in s        the promised amount, or none
+--   places_in s          the places: the free fields, less 1 if an amount is promised
+--   bad_in bs b n        the place of the earliest bad field among the promise b and n fields behind it
+--   read_of bad s        a section as it is read: what it says, or the place of a bad field
 --
 -- Assumes nothing.
 use Rattle.std.specs.Prelude.{ℕ, zero, suc, ◌+◌, ◌-◌, ◌*◌, Bool, cond, ◌&&◌, ◌||◌, List, Some, None, Ok, Err, Option, Result, ◌==◌, nat_lt}

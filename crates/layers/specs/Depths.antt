@@ -1,8 +1,8 @@
 -- The depth with refusal 24, seen through a layer.
 --
---   most_depth        where a depth stops: 2^32 − 1
---   deeper d         the depth that a layer makes of the depth d from below
---   from_below r      the answer that a layer makes of the answer r from below
+--   most_depth     where a depth stops: 2^32 − 1
+--   deeper d       the depth that a layer makes of the depth d from below
+--   from_below r   the answer that a layer makes of the answer r from below
 --
 -- Assumes nothing.
 use Rattle.std.specs.Prelude.{ℕ, ◌+◌, min, Ok, Err}

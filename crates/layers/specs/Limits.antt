@@ -1,11 +1,11 @@
 -- What a limit makes of the ledger below.
 --
---   limit_held held s           what is held for each head, where the ledger below holds `held`: as below, but the places
---                              are the lesser of the limit's own left and those below
---   limit_depth depth s h       the depth with 24: 0 if the limit's own left is spent, else one more than below
---   left_after_promise left h r      the own left after a promise for head h that answers r: one less if accepted
---   left_after_give_back left h r     the same after a give-back: one more if accepted, stopping at 4,000
---   limit_beyond, limit_within   two of the facts that every ledger shows, from those of the ledger below
+--   limit_held held s               what is held for each head, where the ledger below holds `held`: as below, but the places
+--                                   are the lesser of the limit's own left and those below
+--   limit_depth depth s h           the depth with 24: 0 if the limit's own left is spent, else one more than below
+--   left_after_promise left h r     the own left after a promise for head h that answers r: one less if accepted
+--   left_after_give_back left h r   the same after a give-back: one more if accepted, stopping at 4,000
+--   limit_beyond, limit_within      two of the facts that every ledger shows, from those of the ledger below
 --
 -- Assumes nothing.
 use Rattle.std.specs.Prelude.{◌≡◌, ℕ, ◌+◌, ◌-◌, min, cond, List, is_ok, None, ◌==◌, slice_index, slice_set}

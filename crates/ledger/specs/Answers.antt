@@ -1,14 +1,14 @@
 -- What each call answers, and what is held after it.
 --
---   fault_number f            the number of a fault, as its declaration shows it
---   its_number                the number that a case of a fault holds, which the case's type fixes
+--   fault_number f           the number of a fault, as its declaration shows it
+--   its_number               the number that a case of a fault holds, which the case's type fixes
 --   Answer                   what a call answers: done, or the fault
 --   question h x             the answer x to a question about head h: 21 if there is no such head
---   promise_answer t d h a    the answer to a promise of a for head h: 21, 22, 23, 24 with depth d, else done
---   end_answer t h            the answer to settling and to giving back, which end a promise: 21, 25, else done
---   promised_after t h a      what is held after a promise of a for head h
---   settled_after t h         what is held after settling
---   given_back_after t h       what is held after giving back
+--   promise_answer t d h a   the answer to a promise of a for head h: 21, 22, 23, 24 with depth d, else done
+--   end_answer t h           the answer to settling and to giving back, which end a promise: 21, 25, else done
+--   promised_after t h a     what is held after a promise of a for head h
+--   settled_after t h        what is held after settling
+--   given_back_after t h     what is held after giving back
 --
 -- t is what is held before the call. A call refused leaves t as it is, and so does an accepted one for every head
 -- but h. With 21 nothing is looked up for h.

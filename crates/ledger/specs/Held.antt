@@ -1,18 +1,18 @@
 -- What a ledger holds for each head, how an accepted call changes it, and the bound that every ledger keeps.
 --
---   heads              how many heads there are: 14, numbered from 0
---   most_amount         the largest amount that can be promised: 255,000,000
---   most_places         the most places a head can start with: 4,000
---   most_total          the bound's right side: 1,020,000,000,000, as much as so many places can take
---   Held               what is held for one head: a promised amount or none, the credited total, the free places
---   nothing            a head for which nothing is held
---   Heads              what is held for each head
---   with_head t h v     as t, but v for head h
---   Amount p           an amount that is promised is 1 to 255,000,000; of none nothing is said
---   Within v           the bound: credited + 255,000,000 × (places + 1 if an amount is promised) is at most most_total
---   promising v a      v once a is promised: one place less
---   settling v         v once its promised amount has joined the credited total
---   giving_back v       v once its promised amount is given back: one place more
+--   heads             how many heads there are: 14, numbered from 0
+--   most_amount       the largest amount that can be promised: 255,000,000
+--   most_places       the most places a head can start with: 4,000
+--   most_total        the bound's right side: 1,020,000,000,000, as much as so many places can take
+--   Held              what is held for one head: a promised amount or none, the credited total, the free places
+--   nothing           a head for which nothing is held
+--   Heads             what is held for each head
+--   with_head t h v   as t, but v for head h
+--   Amount p          an amount that is promised is 1 to 255,000,000; of none nothing is said
+--   Within v          the bound: credited + 255,000,000 × (places + 1 if an amount is promised) is at most most_total
+--   promising v a     v once a is promised: one place less
+--   settling v        v once its promised amount has joined the credited total
+--   giving_back v     v once its promised amount is given back: one place more
 --
 -- Assumes nothing.
 use Rattle.std.specs.Prelude.{ℕ, ◌+◌, ◌-◌, ◌*◌, ◌<◌, ◌≤◌, cond, is_some, Some, None, Option, ◌==◌}

@@ -1,9 +1,9 @@
 -- Fourteen starts, one for each head: their check, and what is made of them.
 --
---   start_fault_number f    the number of a fault, as its declaration shows it
+--   start_fault_number f   the number of a fault, as its declaration shows it
 --   all_fit starts         no start is above 4,000
 --   starts_answer starts   the check's answer: 26 if a start is above 4,000
---   accepted starts       the starts, or 0 for every head if they are refused
+--   accepted starts        the starts, or 0 for every head if they are refused
 --
 -- Assumes nothing.
 use Rattle.std.specs.Prelude.{ℕ, Bool, true, cond, ◌&&◌, List, [], ◌∷◌, replicate, Ok, Err, Result, nat_le}

@@ -1,9 +1,9 @@
 -- What a table holds.
 --
---   table_held s          what is held for each head: its record, and nothing for a number that is no head's
---   fresh starts         what a table made of fourteen starts holds
+--   table_held s   what is held for each head: its record, and nothing for a number that is no head's
+--   fresh starts   what a table made of fourteen starts holds
 --   table_beyond, table_within, table_amounts
---                        the facts that every ledger shows: nothing beyond the heads, the bound, the amounts
+--                  the facts that every ledger shows: nothing beyond the heads, the bound, the amounts
 --
 -- Assumes nothing.
 use Rattle.std.specs.Prelude.{◌≡◌, ℕ, ◌≤◌, cond, List, None, nat_le, slice_index, slice_index_or}

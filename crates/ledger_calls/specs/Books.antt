@@ -1,16 +1,16 @@
 -- The books of a ledger: what any calls, made in order, come to.
 --
---   Fate                  what a call came to: so much promised, settled or given back, or refused
---   Entry                 a line of the journal: the head and what its call came to
---   journal t cs          the journal of the calls cs, made in order of a ledger that holds t at first
---   accepted_in es         how many entries are not refusals
---   sum_for worth h es     the sum of `worth` over the entries of head h
---   Balanced t es u       from t to u by the entries es: for each head
---                         · the credited total has grown by what was settled, and by nothing else;
---                         · what was promised at first and since is what was settled, was given back or is still promised;
---                         · each promise has taken a place, and each give-back has freed one
+--   Fate                 what a call came to: so much promised, settled or given back, or refused
+--   Entry                a line of the journal: the head and what its call came to
+--   journal t cs         the journal of the calls cs, made in order of a ledger that holds t at first
+--   accepted_in es       how many entries are not refusals
+--   sum_for worth h es   the sum of `worth` over the entries of head h
+--   Balanced t es u      from t to u by the entries es: for each head
+--                        · the credited total has grown by what was settled, and by nothing else;
+--                        · what was promised at first and since is what was settled, was given back or is still promised;
+--                        · each promise has taken a place, and each give-back has freed one
 --   RefusedCallsLeaveNoTrace
---                         calls with a refused one among them leave what the others leave
+--                        calls with a refused one among them leave what the others leave
 --
 -- Assumes nothing.
 use Rattle.std.specs.Prelude.{◌≡◌, ℕ, ◌+◌, false, cond, List, [], ◌∷◌, ◌++◌, is_ok, ◌==◌}

@@ -4,14 +4,14 @@ use Rattle.std.proofs.lemmas.List.{take_all}
 use Rattle.std.proofs.lemmas.Str.Parse.{digit_at}
 use Rattle.std.proofs.lemmas.Bool.Decides.{nat_tests}
 use Rattle.std.specs.Str.Parse.{AllDigits, digits_value}
-use Rattle.std.specs.Char.{digit_value as digitValue}
+use Rattle.std.specs.Char.{digit_value}
 use Rattle.audit_report.specs.Counts.{capped}
 use Rattle.audit_report.proofs.count.read_count.Goals as goal
 use Rattle.audit_report.proofs.count.read_count.Goals.{then-digit-lt48-via-then-digit-lt48, then-digit-lt48-via-else-digit-lt48+then-digit-gt57}
 
 -- the value of a digit
-digit_value : (b : ℕ) → 48 ≤ b → b ≤ 57 → digitValue b ≡ b - 48
-digit_value b low high = grind (arith, nat_tests)
+value_of_digit : (b : ℕ) → 48 ≤ b → b ≤ 57 → digit_value b ≡ b - 48
+value_of_digit b low high = grind (arith, nat_tests)
 
 pub returns-then-digit-lt48 : goal.returns-then-digit-lt48
 returns-then-digit-lt48 c d =
@@ -25,7 +25,7 @@ pub loop-digit-preserved : goal.loop-digit-preserved
 loop-digit-preserved c =
     let text = c.args.text.now in
     let i = c.loop-digit.digit-index in
-    let d = digit_value (get_or text i 0) c.if-digit-lt48.false c.if-digit-gt57.false in
+    let d = value_of_digit (get_or text i 0) c.if-digit-lt48.false c.if-digit-gt57.false in
     let v = digits_value_more 10 text i c.loop-digit-test.true in
     (digits_more 10 text i c.loop-digit-test.true c.loop-digit.invariant.0 (omega arith), omega (arith, c.loop-digit.invariant.1))
 
