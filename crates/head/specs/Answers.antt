@@ -1,10 +1,10 @@
 -- What a head answers to received bytes.
 --
---   head_after h m, answer_to h m      the head after a message m, and its answer to it, if any
---   receive_answer h bs buffer        what receiving the bytes bs answers: 7, or the length of the answer, 0 for none
---   head_receiving h bs r             the head after it, where it answered r
---   buffer_receiving h bs buffer r    the buffer after it: the answer's frame starts it and the rest stays
---   reply_content r m                 the message that a reply to m is
+--   head_after h m, answer_to h m    the head after a message m, and its answer to it, if any
+--   receive_answer h bs buffer       what receiving the bytes bs answers: 7, or the length of the answer, 0 for none
+--   head_receiving h bs r            the head after it, where it answered r
+--   buffer_receiving h bs buffer r   the buffer after it: the answer's frame starts it and the rest stays
+--   reply_content r m                the message that a reply to m is
 --   written a buffer                 the buffer with an answer at its start, and the answer's length
 --   EchoShort r m                    if the reply r to m is its echo, then m has at most two data bytes
 --

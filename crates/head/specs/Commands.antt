@@ -1,8 +1,8 @@
 -- What a head does on a message.
 --
---   command_of m          which command a message is
---   row p                a row of the table: what a head in the phase p does on each command
---   obeyed h k           the head h after the command k, and its reply
+--   command_of m   which command a message is
+--   row p          a row of the table: what a head in the phase p does on each command
+--   obeyed h k     the head h after the command k, and its reply
 --
 -- Assumes nothing.
 use Rattle.std.specs.Prelude.{ℕ, Bool, true, false, cond, ◌||◌, List, [], ◌∷◌, Some, None, Option, ◌==◌}

@@ -1,10 +1,10 @@
 -- The own moves of a head, power cuts among them.
 --
---   own_moves i p         where a head in the phase p with the inhibit bit i moves by itself
---   power_cuts p          where it finds itself when its power comes back
---   Moves h q h' t       the head h moves to the phase q and becomes h'; t tells whether it takes the bill
---   moved h q            the same, computed: the head after a move to the phase q, and what the move answers
---   MovesAsListed        moved answers Ok exactly for the moves of Moves, and a refused move changes nothing
+--   own_moves i p    where a head in the phase p with the inhibit bit i moves by itself
+--   power_cuts p     where it finds itself when its power comes back
+--   Moves h q h' t   the head h moves to the phase q and becomes h'; t tells whether it takes the bill
+--   moved h q        the same, computed: the head after a move to the phase q, and what the move answers
+--   MovesAsListed    moved answers Ok exactly for the moves of Moves, and a refused move changes nothing
 --
 -- Assumes nothing.
 use Rattle.std.specs.Prelude.{◌≡◌, ℕ, ◌≤◌, Bool, true, false, cond, not, ◌&&◌, ◌||◌, ◌⊎◌, List, [], ◌∷◌, Some, None, Ok, Err, Option, Result, ◌==◌}

@@ -1,11 +1,11 @@
 -- The phases of a head and the status of each.
 --
---   status p             the status that a head in a phase answers: the code that the phase's definition shows, with its data
---   code p, held p       that code, and the bytes that the phase holds: together they tell the phase
---   error_byte e          the code of an error
---   ReadAsStatus p       whoever reads statuses reads it as that status
---   new_head              a head as it starts
---   idle and its like    the phases, without the number that their definition shows
+--   status p            the status that a head in a phase answers: the code that the phase's definition shows, with its data
+--   code p, held p      that code, and the bytes that the phase holds: together they tell the phase
+--   error_byte e        the code of an error
+--   ReadAsStatus p      whoever reads statuses reads it as that status
+--   new_head            a head as it starts
+--   idle and its like   the phases, without the number that their definition shows
 --
 -- Throughout, n is that number, c the code of a bill, d the reason of a rejection, e an error, f its failure byte.
 -- Assumes nothing.

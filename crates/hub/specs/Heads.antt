@@ -1,12 +1,12 @@
 -- Admission and dismissal.
 --
---   admission_answer s n c    what admitting head n answers, where c is what the check of its sheet answers: 11, 12, 13, 14, 15
---   after_admission s n c     the hub after it
+--   admission_answer s n c   what admitting head n answers, where c is what the check of its sheet answers: 11, 12, 13, 14, 15
+--   after_admission s n c    the hub after it
 --   Admits s n d r s'        an admission of head n with the sheet d, answered r, leads from s to s'
 --   admission_refusal e, sheet_refusal e, dismissal_refusal e
 --                            the refusals of the turn table and of the sheet, as the hub's
---   dismissal_answer s n      what dismissing head n answers: 11, 12, 16
---   after_dismissal s n       the hub after it
+--   dismissal_answer s n     what dismissing head n answers: 11, 12, 16
+--   after_dismissal s n      the hub after it
 --
 -- A call refused leaves the hub as it is. Assumes nothing.
 use Rattle.std.specs.Prelude.{◌≡◌, ℕ, cond, Some, None, Ok, Err, Result, slice_set}

@@ -1,11 +1,11 @@
 -- The number of each refusal, as its declaration shows it.
 --
---   admission_number e     11, 12, 13, 14 or 15
---   dismissal_number e     11, 12 or 16
---   opening_number e       11, 17 or 7
---   first_number e         18, 19 or 7
---   second_number e        18 or 19
---   cut_number e           18 or 19
+--   admission_number e   11, 12, 13, 14 or 15
+--   dismissal_number e   11, 12 or 16
+--   opening_number e     11, 17 or 7
+--   first_number e       18, 19 or 7
+--   second_number e      18 or 19
+--   cut_number e         18 or 19
 --
 -- Assumes nothing.
 use Rattle.std.specs.Prelude.{ℕ}

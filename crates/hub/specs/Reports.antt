@@ -2,22 +2,22 @@
 --
 --   heard_in bs               the message heard in the received bytes bs, if any; said_in r the same of what hearing answered
 --   status_in bs              the status heard: a message that does not read as one counts as nothing heard; status_of m the
---                            same of a message; status_read r the same of what the code read
+--                             same of a message; status_read r the same of what the code read
 --   first_check s p n room    whether the first report with the pass p, n received bytes and a buffer of this length is
---                            accepted, and for which head: else 18, 19 or 7
+--                             accepted, and for which head: else 18, 19 or 7
 --   first_reaction s h bs     the reaction to the received bytes for head h; reaction_in u m the same of its setup u and the
---                            status m
+--                             status m
 --   first_calls s t h bs      the ledger calls of that report, in order, where the ledger holds t
 --   calls_awaited s t bs      the same of the report that the open slot awaits: none if it awaits no first report
 --   after_first s c bs        the hub after a first report that was checked with the answer c; after_reply s h r sent the same
---                            of the reaction r for head h, where `sent` tells whether the second frame is a setting
+--                             of the reaction r for head h, where `sent` tells whether the second frame is a setting
 --   ledger_after_first s t c bs   what the ledger holds after it
 --   first_sent s t d h bs     its second frame, if any; d is the depth that comes with 24; sent_by u r v the same of the setup
---                            u, the reaction r and the verdict v, and sends_setting u r whether it is a setting
+--                             u, the reaction r and the verdict v, and sends_setting u r whether it is a setting
 --   first_told s t d p c bs   what it tells; told_first r the same of what the code answered
 --   taken_as m next           whether what the head said was taken: the message m must be a status, and then `next` counts;
---                            taken_by r the same of what the code read
---   by_head v, length_of m     the verdict v, and the length of the frame m, as a report tells them
+--                             taken_by r the same of what the code read
+--   by_head v, length_of m    the verdict v, and the length of the frame m, as a report tells them
 --   buffer_after_first s t d c bs was   the buffer after it
 --   second_check s p n        the same of a second report: 18 or 19
 --   after_second s c bs       the hub after it; after_hearing s h m the same of the message m heard from head h

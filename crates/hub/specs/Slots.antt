@@ -2,7 +2,7 @@
 --
 --   poll_message              what the hub asks a head: 11H, without data
 --   opening_answer s w room   what opening with the wish w and a buffer of this length answers: 11, 17, 7, else the head served
---                            and its pass
+--                             and its pass
 --   after_opening s w r       the hub after an opening with the wish w that answered r
 --   poll_written r buffer     the buffer after it: the poll's frame starts it, and the rest stays
 --

@@ -2,15 +2,15 @@
 --
 --   HubState             the state of a hub, without its ledger: the turn table, the setups of the admitted heads, the slot,
 --                        and the slot count
---   state_of s            a hub's own state as a HubState
---   new_state             a new hub
+--   state_of s           a hub's own state as a HubState
+--   new_state            a new hub
 --   restarted s          the hub after a restart: no head is admitted, no slot is open, the count stays
---   is_open slot          whether a slot is open
---   served_by slot        the head that the open slot is for
---   setup_of s h          the setup of head h, if it is admitted
---   first_awaited s n     the head whose first report the hub awaits from a pass with the count n
---   second_awaited s n    the same of the second report
---   next_count s          the count of the next slot: 1 for the first, modulo 2^64
+--   is_open slot         whether a slot is open
+--   served_by slot       the head that the open slot is for
+--   setup_of s h         the setup of head h, if it is admitted
+--   first_awaited s n    the head whose first report the hub awaits from a pass with the count n
+--   second_awaited s n   the same of the second report
+--   next_count s         the count of the next slot: 1 for the first, modulo 2^64
 --
 -- Assumes nothing.
 use Rattle.std.specs.Prelude.{ℕ, ◌+◌, ◌%◌, ◌^◌, Bool, cond, List, replicate, is_some, Some, None, Option, ◌==◌, slice_index_or}

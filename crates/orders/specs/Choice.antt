@@ -1,11 +1,11 @@
 -- Which head a slot is opened for.
 --
---   Smallest t h        head h has the smallest slack, and the lowest number on a tie
---   TurnOf t wish h     the next turn is head h's: the head wished for if some order within the slacks starts with it,
---                       else the head of smallest slack
---   Chosen t wish r     r is the head whose turn is next, or nothing if there is no head
---   chosen t wish       the same, computed
---   ChosenIsComputed    of every table that can exist, Chosen t wish holds of chosen t wish and of nothing else
+--   Smallest t h       head h has the smallest slack, and the lowest number on a tie
+--   TurnOf t wish h    the next turn is head h's: the head wished for if some order within the slacks starts with it,
+--                      else the head of smallest slack
+--   Chosen t wish r    r is the head whose turn is next, or nothing if there is no head
+--   chosen t wish      the same, computed
+--   ChosenIsComputed   of every table that can exist, Chosen t wish holds of chosen t wish and of nothing else
 --
 -- Assumes nothing.
 use Rattle.std.specs.Prelude.{◌≡◌, ℕ, suc, ◌<◌, ◌≤◌, true, cond, ◌↔◌, [], ◌∷◌, Some, None, Option, nat_lt}

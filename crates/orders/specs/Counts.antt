@@ -1,12 +1,12 @@
 -- Counts of small slacks, and that they decide whether an order exists.
 --
---   heads_within k t       how many heads have a slack of at most k
---   OrderCounts t         for every k, at most k heads have a slack of at most k
---   StartCounts t h       head h is admitted with a slack of at least 1, and for every k from 1 at most k - 1 of the
---                         other heads have a slack of at most k
---   CountsDecideOrders    some order keeps every head within its slack exactly if OrderCounts holds, and some such
---                         order starts with h exactly if StartCounts holds of h
---   can_start t h          StartCounts of a table that can exist, as a computed test
+--   heads_within k t     how many heads have a slack of at most k
+--   OrderCounts t        for every k, at most k heads have a slack of at most k
+--   StartCounts t h      head h is admitted with a slack of at least 1, and for every k from 1 at most k - 1 of the
+--                        other heads have a slack of at most k
+--   CountsDecideOrders   some order keeps every head within its slack exactly if OrderCounts holds, and some such
+--                        order starts with h exactly if StartCounts holds of h
+--   can_start t h        StartCounts of a table that can exist, as a computed test
 --
 -- Assumes nothing.
 use Rattle.std.specs.Prelude.{◌≡◌, ℕ, zero, suc, ◌≤◌, Bool, true, false, ◌&&◌, ◌↔◌, Some, None, count_by, Option, nat_le}

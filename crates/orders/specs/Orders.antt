@@ -1,12 +1,12 @@
 -- Orders of the admitted heads, and which tables can exist.
 --
---   times h o            how often head h stands in the list o
---   Order t o            o lists each admitted head once, and nothing else
---   WithinSlacks t o     no head's place in o, counted from 1, is above its slack
---   SomeOrder t          some order keeps every head within its slack
---   SomeOrderFrom t h    some order that keeps every head within its slack starts with head h
---   fits_limits t         whether the heads outnumber no head's limit
---   Bounded t            the heads outnumber no limit, no slack is above its limit, and there are 14 places
+--   times h o           how often head h stands in the list o
+--   Order t o           o lists each admitted head once, and nothing else
+--   WithinSlacks t o    no head's place in o, counted from 1, is above its slack
+--   SomeOrder t         some order keeps every head within its slack
+--   SomeOrderFrom t h   some order that keeps every head within its slack starts with head h
+--   fits_limits t       whether the heads outnumber no head's limit
+--   Bounded t           the heads outnumber no limit, no slack is above its limit, and there are 14 places
 --
 -- Every turn table that can exist keeps `SomeOrder` and `Bounded`. Assumes nothing.
 use Rattle.std.specs.Prelude.{◌≡◌, ℕ, suc, ◌<◌, ◌≤◌, Bool, true, cond, ◌&&◌, List, [], ◌∷◌, length, Some, None, count_by, Option, nat_eq, nat_le, slice_index}

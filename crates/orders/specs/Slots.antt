@@ -1,7 +1,7 @@
 -- The table after a slot.
 --
 --   served t h             t after a slot for head h: its slack is its limit again, all others fall by one
---   after_serving t wish    t after a slot for the head chosen, t itself if there is no head
+--   after_serving t wish   t after a slot for the head chosen, t itself if there is no head
 --
 -- Assumes nothing.
 use Rattle.std.specs.Prelude.{ℕ, ◌-◌, map, Some, None, Option, slice_set}

@@ -1,6 +1,6 @@
 -- Turn tables: which heads are admitted, with what limits and slacks.
 --
---   Table             a place for each head, lowest number first: its turn, or nothing where it is not admitted
+--   Table              a place for each head, lowest number first: its turn, or nothing where it is not admitted
 --   turn_of t h        the turn of head h, if it is admitted
 --   is_admitted t h    whether head h is admitted
 --   limit_of t h       the limit of head h, 0 if it is not admitted

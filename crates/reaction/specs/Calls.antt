@@ -1,14 +1,14 @@
 -- The ledger calls of a first report, in order.
 --
---   calls_of r o          the calls of the reaction r, where the amount o, if any, is promised: the end of that promise, then
---                        the promise of a bill in escrow
---   listed cs            the same of the calls that the code hands on
---   parts_of r o          the calls of the reaction r as the code hands them on
---   called_all t h cs     what a ledger that holds t holds after these calls for head h, made in order
---   promise_made t d h r  what the promise among the calls of r was answered: done where there is none
+--   calls_of r o           the calls of the reaction r, where the amount o, if any, is promised: the end of that promise, then
+--                          the promise of a bill in escrow
+--   listed cs              the same of the calls that the code hands on
+--   parts_of r o           the calls of the reaction r as the code hands them on
+--   called_all t h cs      what a ledger that holds t holds after these calls for head h, made in order
+--   promise_made t d h r   what the promise among the calls of r was answered: done where there is none
 --   PromiseAnswered t d h cs r
---                        the promise among the calls cs, made in order, was answered r
---   verdict r made       why the bill in escrow is returned, if it is
+--                          the promise among the calls cs, made in order, was answered r
+--   verdict r made         why the bill in escrow is returned, if it is
 --
 -- Assumes nothing.
 use Rattle.std.specs.Prelude.{◌≡◌, ℕ, List, [], ◌∷◌, ◌++◌, Some, None, Ok, Err, Option, Result}

@@ -1,14 +1,14 @@
 -- The second frame of a slot.
 --
 --   second_frame u r v    the frame that the reply r to a head with the setup u comes to, where v tells whether a bill in
---                        escrow is returned
+--                         escrow is returned
 --   frame_content f       a second frame as a message, if there is one
 --   sent_setting f        the setting that it is, if it is one
 --   room_answer m room    what writing it into a buffer of a length answers: 7 exactly where it does not fit
 --   buffer_with m was r   the buffer after a write that answered r: the frame, if any, starts it and the rest stays
---   written m buffer     the buffer with a message's frame at its start, and the frame's length, 0 for none
+--   written m buffer      the buffer with a message's frame at its start, and the frame's length, 0 for none
 --   SevenSuffice m was r buffer
---                        a buffer of seven bytes or more takes the frame: the write's answer r, and the buffer after it
+--                         a buffer of seven bytes or more takes the frame: the write's answer r, and the buffer after it
 --
 -- Assumes nothing.
 use Rattle.std.specs.Prelude.{◌≡◌, ℕ, ◌+◌, ◌≤◌, cond, List, [], length, Some, None, Ok, Err, Option, Result, nat_lt}

@@ -1,7 +1,7 @@
 -- Which end of a promise goes with which reply.
 --
 --   is_orderly ending r   a bill is promised only once a promise that stands was given back, so that its place is free; and
---                        no promise ends with another
+--                         no promise ends with another
 --
 -- Assumes nothing.
 use Rattle.std.specs.Prelude.{Bool, true, false, Some, None, Option}

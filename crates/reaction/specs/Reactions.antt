@@ -1,10 +1,10 @@
 -- How the hub reacts to a status, by its code: what becomes of a promise that stands, and what the second frame is.
 --
---   reaction_to u m       the reaction to the status m of a head with the setup u: a row of the table
---   bill_reply u code     the reply to a bill in escrow: its value is to be promised, or it is returned, and why
---   status_content s      a status as a message
---   no_reaction           nothing is called and nothing is sent
---   setup_after u r       the setup after the reaction: a reset leaves no setting confirmed
+--   reaction_to u m     the reaction to the status m of a head with the setup u: a row of the table
+--   bill_reply u code   the reply to a bill in escrow: its value is to be promised, or it is returned, and why
+--   status_content s    a status as a message
+--   no_reaction         nothing is called and nothing is sent
+--   setup_after u r     the setup after the reaction: a reset leaves no setting confirmed
 --
 -- Assumes nothing.
 use Rattle.std.specs.Prelude.{◌≡◌, ℕ, Bool, true, false, cond, ◌||◌, List, [], ◌∷◌, Some, None, Option, ◌==◌, slice_index, refl}

@@ -1,15 +1,15 @@
 -- A head's setup: its sheet, and how many of its settings the head has confirmed, in their order.
 --
---   fresh_setup s           the setup of a head just admitted or reset: no setting is confirmed
---   next_setting u          the first unconfirmed setting, if any
+--   fresh_setup s            the setup of a head just admitted or reset: no setting is confirmed
+--   next_setting u           the first unconfirmed setting, if any
 --   is_set_up u              whether all settings are confirmed
---   same_content m n        whether two messages have the same command byte and the same data
---   setting_if sent u       the setting that was just sent: the first unconfirmed one, if a setting was sent
---   setup_hearing sent o u  the setup after a second report: where the setting `sent` was just sent, and the message heard
---                          (o, if any) is its exact echo, one more setting is confirmed
+--   same_content m n         whether two messages have the same command byte and the same data
+--   setting_if sent u        the setting that was just sent: the first unconfirmed one, if a setting was sent
+--   setup_hearing sent o u   the setup after a second report: where the setting `sent` was just sent, and the message heard
+--                            (o, if any) is its exact echo, one more setting is confirmed
 --   OnlyTheExactEchoConfirms
---                          two messages are the same to the test exactly if they are equal, and a second report confirms
---                          a setting exactly if the message heard equals it
+--                            two messages are the same to the test exactly if they are equal, and a second report confirms
+--                            a setting exactly if the message heard equals it
 --
 -- Assumes nothing.
 use Rattle.std.specs.Prelude.{◌≡◌, suc, Bool, true, false, cond, not, ◌&&◌, is_some, Some, None, Option, ◌==◌}

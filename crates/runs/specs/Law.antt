@@ -1,14 +1,14 @@
 -- The law of runs.
 --
---   EveryBoxCloses w h            what is credited for head h, with its promised amount if that bill is taken, is what its
---                                 bills taken are worth
---   EveryHeadGetsItsTurn w        any L slots opened in a row while a head of limit L stays admitted include one for it
---   WishesPassedOverRightly w     a wish for an admitted head is passed over exactly when no order of the admitted heads
---                                 starts with it and keeps every head within its slack
---   EveryTakenBillIsCredited w h  a taken bill of head h is credited no later than in the head's first later slot whose poll
---                                 and answer arrive and whose first report completes
---   Law w                         all of these
---   RunsKeepTheLaw                the law stands at every moment of every run
+--   EveryBoxCloses w h          what is credited for head h, with its promised amount if that bill is taken, is what its
+--                               bills taken are worth
+--   EveryHeadGetsItsTurn w      any L slots opened in a row while a head of limit L stays admitted include one for it
+--   WishesPassedOverRightly w   a wish for an admitted head is passed over exactly when no order of the admitted heads
+--                               starts with it and keeps every head within its slack
+--   EveryTakenBillIsCredited w h   a taken bill of head h is credited no later than in the head's first later slot whose poll
+--                               and answer arrive and whose first report completes
+--   Law w                       all of these
+--   RunsKeepTheLaw              the law stands at every moment of every run
 --
 -- Assumes nothing.
 use Rattle.std.specs.Prelude.{◌≡◌, ℕ, ◌+◌, ◌<◌, ◌≤◌, Bool, true, false, cond, ◌||◌, ◌↔◌, List, [], ◌∷◌, ◌++◌, is_some, Some, None, Option, ◌==◌, ◌≢◌}

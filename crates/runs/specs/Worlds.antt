@@ -8,7 +8,7 @@
 --   Mark               what the hub did with its turn table: the call, the head served by it, and the table after it
 --   Memory             all that is remembered
 --   World              a world
---   new_world ledger    a new hub over a ledger, and fourteen heads as they start
+--   new_world ledger   a new hub over a ledger, and fourteen heads as they start
 --   put k x f          f, but x at k
 --
 -- Bills have numbers, so that what is said of a bill is not said of another of the same worth. Slot numbers do not wrap.

@@ -1,6 +1,6 @@
 -- What a bill is worth is an amount.
 --
---   ValuesAreAmounts     a value on a sheet is 1 to 255,000,000
+--   ValuesAreAmounts   a value on a sheet is 1 to 255,000,000
 --
 -- Assumes nothing.
 use Rattle.std.specs.Prelude.{◌≡◌, ℕ, ◌≤◌, Some}

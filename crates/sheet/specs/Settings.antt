@@ -1,8 +1,8 @@
 -- The settings that a sheet asks for.
 --
---   settings_of s         all of them, as messages, in the order in which they are sent
---   setting_content t     a setting as a message
---   nth xs i             what stands at a place of a list, if anything
+--   settings_of s       all of them, as messages, in the order in which they are sent
+--   setting_content t   a setting as a message
+--   nth xs i            what stands at a place of a list, if anything
 --
 -- Assumes nothing.
 use Rattle.std.specs.Prelude.{ℕ, zero, suc, List, [], ◌∷◌, Some, None, Option}

@@ -1,12 +1,12 @@
 -- Sheets: which are right, and what a checked one says.
 --
---   sheet_answer d          what checking answers: the sheet as it came, if it is right
---   limit_of s              the limit on a sheet
---   value_of s code         what a bill of a code is worth, nothing for an unassigned code
---   value_on d code         the same, of a sheet as it came
---   is_enabled s code       whether bills of a code are taken
---   told r, draft_of s      a checked sheet as it came, which determines it
---   sheet_fault_number       the number of the refusal
+--   sheet_answer d       what checking answers: the sheet as it came, if it is right
+--   limit_of s           the limit on a sheet
+--   value_of s code      what a bill of a code is worth, nothing for an unassigned code
+--   value_on d code      the same, of a sheet as it came
+--   is_enabled s code    whether bills of a code are taken
+--   told r, draft_of s   a checked sheet as it came, which determines it
+--   sheet_fault_number   the number of the refusal
 --
 -- Assumes nothing.
 use Rattle.std.specs.Prelude.{ℕ, ◌-◌, ◌/◌, ◌%◌, ◌^◌, Bool, true, cond, ◌&&◌, List, [], ◌∷◌, map, None, Ok, Err, Option, Result, ◌==◌, nat_le, slice_index_or}

@@ -2,7 +2,7 @@
 --
 --   right_pair m e     the exponent is at most 6, and 0 without a mantissa
 --   checked_pair m e   the two, if they are right
---   worth m e         mantissa × 10 to the exponent, nothing without a mantissa
+--   worth m e          mantissa × 10 to the exponent, nothing without a mantissa
 --
 -- Assumes nothing.
 use Rattle.std.specs.Prelude.{ℕ, ◌*◌, ◌^◌, Bool, cond, ◌&&◌, ◌||◌, Some, None, Option, ◌==◌, nat_le, nat_lt}

@@ -1,10 +1,10 @@
 -- What admission and dismissal answer and what table they leave.
 --
---   number_answer t h         12 if the number is over 13, then 13 if head h is admitted already, else accepted
---   admission_answer t h l    number_answer, then 15 if with head h the heads outnumbered some limit, l or an older one
---   after_admission t h l     t with head h, its slack at its limit l, if the admission is accepted, else t
---   dismissal_answer t h      12 if the number is over 13, then 16 if head h is not admitted, else accepted
---   after_dismissal t h       t without head h if the dismissal is accepted, else t
+--   number_answer t h        12 if the number is over 13, then 13 if head h is admitted already, else accepted
+--   admission_answer t h l   number_answer, then 15 if with head h the heads outnumbered some limit, l or an older one
+--   after_admission t h l    t with head h, its slack at its limit l, if the admission is accepted, else t
+--   dismissal_answer t h     12 if the number is over 13, then 16 if head h is not admitted, else accepted
+--   after_dismissal t h      t without head h if the dismissal is accepted, else t
 --
 -- Assumes nothing.
 use Rattle.std.specs.Prelude.{ℕ, cond, Ok, Err, Result, nat_lt}

@@ -1,16 +1,16 @@
 -- Runs of a turn table: any calls in any order, accepted or refused, and what holds of them all.
 --
---   Call                         an admission, a dismissal, a dismissal of all heads, or a slot to be served
---   after_call t call             the table after a call, by the definitions of the calls' own contracts
---   after_calls t calls           the table after a list of calls, first to last
---   slots t calls                the heads that slots were opened for, first to last
---   StaysAdmitted h t calls      head h is admitted in t and after every call
---   TurnOrAdmission h t call     the call opens a slot for head h, or admits it
---   SlacksCountSlots t           a head's slack is its limit less the slots opened since its last turn or its admission
---   EveryHeadGetsItsTurn t       any L slots opened in a row while a head of limit L stays admitted include one for it
---   WishesAreGranted t           a wish is granted exactly if some order within the slacks starts with it, so it is
---                                passed over exactly if no such order does
---   TurnsKeepTheirLaw            these three, at every moment of every run that starts with the empty table
+--   Call                       an admission, a dismissal, a dismissal of all heads, or a slot to be served
+--   after_call t call          the table after a call, by the definitions of the calls' own contracts
+--   after_calls t calls        the table after a list of calls, first to last
+--   slots t calls              the heads that slots were opened for, first to last
+--   StaysAdmitted h t calls    head h is admitted in t and after every call
+--   TurnOrAdmission h t call   the call opens a slot for head h, or admits it
+--   SlacksCountSlots t         a head's slack is its limit less the slots opened since its last turn or its admission
+--   EveryHeadGetsItsTurn t     any L slots opened in a row while a head of limit L stays admitted include one for it
+--   WishesAreGranted t         a wish is granted exactly if some order within the slacks starts with it, so it is
+--                              passed over exactly if no such order does
+--   TurnsKeepTheirLaw          these three, at every moment of every run that starts with the empty table
 --
 -- Assumes nothing.
 use Rattle.std.specs.Prelude.{◌≡◌, ℕ, ◌+◌, ◌≤◌, true, ◌↔◌, List, [], ◌∷◌, length, Some, None, Ok, Option}

@@ -1,9 +1,9 @@
 -- The worked cases, computed.
 --
---   limit_from n        the limit n
---   three_heads         limits 3 3 3, then the wishes 0 0 1 2 1
---   third_head l        limits 2 and 4 are admitted, then head 2 with the limit l
---   WorkedCases        three_heads opens slots for 0, 1, 2, 0, 1; third_head l is refused with 15 at last, for every l
+--   limit_from n   the limit n
+--   three_heads    limits 3 3 3, then the wishes 0 0 1 2 1
+--   third_head l   limits 2 and 4 are admitted, then head 2 with the limit l
+--   WorkedCases    three_heads opens slots for 0, 1, 2, 0, 1; third_head l is refused with 15 at last, for every l
 --
 -- Assumes nothing.
 use Rattle.std.specs.Prelude.{◌≡◌, ℕ, ◌≤◌, List, [], ◌∷◌, Ok, Err, Result}
