@@ -19,7 +19,7 @@ times h o = count_by (nat_eq h) o
 abbrev pub Order : Table → List ℕ → Type 0
 Order t o = (h : ℕ) → times h o ≡ cond (is_admitted t h) 1 0
 
--- `get_or o i 0` is the head whose place is `suc i`, counted from 1
+-- `slice_index o i` is the head whose place is `suc i`, counted from 1
 abbrev pub WithinSlacks : Table → List ℕ → Type 0
 WithinSlacks t o = (i : ℕ) → i < length o → suc i ≤ slack_of t (slice_index o i)
 
