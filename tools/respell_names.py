@@ -192,7 +192,7 @@ def main():
         return 0
     changed = 0
     for path, early in TURNED.items():
-        if os.path.exists(path):
+        if rows and os.path.exists(path):
             text = read(path)
             changed += write(path, text, turned(text, early, after_dot=False))
     for path in files(".antt"):
