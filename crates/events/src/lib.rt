@@ -1,6 +1,6 @@
+// What a script says: the ledger that each head has, and the steps in their order.
 #![tactic(auto)]
 
-// What a script says: the ledger that each head has, and the steps in their order.
 use head::Phase;
 use sheet::Draft;
 

@@ -1,6 +1,6 @@
+// A test head: an ID-003 acceptor for the hub to be tested against.
 #![tactic(auto)]
 
-// A test head: an ID-003 acceptor for the hub to be tested against.
 mod answer;
 mod command;
 mod fault;

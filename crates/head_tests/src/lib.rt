@@ -1,6 +1,6 @@
+// Tests of the head by tables. The expected values were written by hand from the tables of docs/HEAD.md.
 #![tactic(auto)]
 
-// Tests of the head by tables. The expected values were written by hand from the tables of docs/HEAD.md.
 #[cfg(test)]
 mod commands;
 #[cfg(test)]

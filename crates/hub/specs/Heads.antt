@@ -20,7 +20,7 @@ use Rattle.turns.specs.Calls as turns
 use Rattle.turns.specs.declared.fault.AdmissionFault.{AdmissionFault}
 use Rattle.turns.specs.declared.fault.AdmissionFault.TheVariants as turned
 use Rattle.turns.specs.declared.fault.DismissalFault.{DismissalFault}
-use Rattle.turns.specs.declared.fault.DismissalFault.TheVariants as turnedAway
+use Rattle.turns.specs.declared.fault.DismissalFault.TheVariants as turned_away
 use Rattle.reaction.specs.Setups.{fresh_setup}
 use Rattle.hub.specs.States.{HubState, is_open}
 use Rattle.hub.specs.declared.refusal.AdmissionRefusal.{AdmissionRefusal}
@@ -82,8 +82,8 @@ pub record Admits (s : HubState) (n : ℕ) (d : Draft) (r : Result (Unit {0}) Ad
 -- DISMISSAL
 
 abbrev pub dismissal_refusal : DismissalFault → DismissalRefusal
-dismissal_refusal turnedAway.NumberOver13 = dismissal.NumberOver13
-dismissal_refusal turnedAway.NotAdmitted = dismissal.NotAdmitted
+dismissal_refusal turned_away.NumberOver13 = dismissal.NumberOver13
+dismissal_refusal turned_away.NotAdmitted = dismissal.NotAdmitted
 
 abbrev pub unless_kept : Result (Unit {0}) DismissalFault → Result (Unit {0}) DismissalRefusal
 unless_kept (Ok done) = Ok tt

@@ -1,6 +1,6 @@
+// The hub: it admits heads, opens a slot for one head at a time, and reacts to what the head answers. It owns its ledger.
 #![tactic(auto)]
 
-// The hub: it admits heads, opens a slot for one head at a time, and reacts to what the head answers. It owns its ledger.
 mod accept;
 mod heads;
 mod hearing;

@@ -1,5 +1,5 @@
 // How the hub's state goes on with a report that was accepted.
-ghost use Rattle.std.specs.Prelude.{◌≡◌, ◌≤◌, length, set, is_some, slice_set};
+ghost use Rattle.std.specs.Prelude.{◌≡◌, ◌≤◌, length, is_some, slice_set};
 ghost use Rattle.std.specs.Option.{option_map};
 ghost use Rattle.message.specs.Kinds.{message_content};
 ghost use Rattle.reaction.specs.Frames.{frame_content, sent_setting, written};

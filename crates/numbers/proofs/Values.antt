@@ -5,19 +5,19 @@ use Rattle.std.proofs.lemmas.List.{take-append-drop}
 use Rattle.std.proofs.lemmas.Str.Parse.{IsNumeralModel, numerals_by_value, tells_digits}
 use Rattle.std.proofs.lemmas.Bool.Decides.{nat_tests}
 use Rattle.std.specs.Str.Parse.{AllDigits, digits_value, digits_value_after}
-use Rattle.std.specs.Char.{digit_value as digitValue}
+use Rattle.std.specs.Char.{digit_value}
 
 -- the value of a digit
-pub digit_value : (b : ℕ) → 48 ≤ b → b ≤ 57 → digitValue b ≡ b - 48
-digit_value b low high = grind (arith, nat_tests)
+pub value_of_digit : (b : ℕ) → 48 ≤ b → b ≤ 57 → digit_value b ≡ b - 48
+value_of_digit b low high = grind (arith, nat_tests)
 
 value_grows : (n : ℕ) (ys : List ℕ) → n ≤ digits_value_after 10 n ys
 value_grows n [] = omega arith
-value_grows n (y ∷ ys) = let h = value_grows (n * 10 + digitValue y) ys in omega arith
+value_grows n (y ∷ ys) = let h = value_grows (n * 10 + digit_value y) ys in omega arith
 
 value_front : (n : ℕ) (xs ys : List ℕ) → digits_value_after 10 n xs ≤ digits_value_after 10 n (xs ++ ys)
 value_front n [] ys = value_grows n ys
-value_front n (x ∷ xs) ys = value_front (n * 10 + digitValue x) xs ys
+value_front n (x ∷ xs) ys = value_front (n * 10 + digit_value x) xs ys
 
 -- the first digits write no more than all do
 pub value_take : (text : List ℕ) (i : ℕ) → digits_value 10 (take i text) ≤ digits_value 10 text

@@ -1,6 +1,6 @@
+// Orders of the heads: who could be served in the coming slots, and that counting decides whether there is an order.
 #![tactic(auto)]
 
-// Orders of the heads: who could be served in the coming slots, and that counting decides whether there is an order.
 pub mod law;
 pub mod limit;
 mod place;

@@ -1,6 +1,6 @@
+// How the hub reacts to a head's status: which ledger calls it makes, and which second frame it sends.
 #![tactic(auto)]
 
-// How the hub reacts to a head's status: which ledger calls it makes, and which second frame it sends.
 mod calls;
 mod fault;
 mod reaction;

@@ -1,7 +1,7 @@
-#![tactic(auto)]
-
 // Runs: a hub, its ledger, fourteen heads and the line between them, over any sequence of calls, frames, losses, own moves
 // and power cuts; and the law that stands at every moment of every run.
+#![tactic(auto)]
+
 ghost use Rattle.runs.specs.Law.{RunsKeepTheLaw};
 
 // How many own moves the head that is served may still make before its slot ends.

@@ -1,6 +1,6 @@
+// A head's sheet: what the operator says of it, checked once and for all at admission.
 #![tactic(auto)]
 
-// A head's sheet: what the operator says of it, checked once and for all at admission.
 mod denomination;
 mod fault;
 mod setting;

@@ -1,6 +1,6 @@
+// Turns: which head is polled next, so that no head waits past its limit.
 #![tactic(auto)]
 
-// Turns: which head is polled next, so that no head waits past its limit.
 pub mod fault;
 pub mod law;
 pub mod table;

@@ -1,6 +1,6 @@
+// Runs of the turn table on examples: what it prints, and the worked listing by the code itself.
 #![tactic(auto)]
 
-// Runs of the turn table on examples: what it prints, and the worked listing by the code itself.
 #[cfg(test)]
 mod tests {
     use orders::limit::Limit;

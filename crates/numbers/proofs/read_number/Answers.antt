@@ -3,7 +3,7 @@ use Rattle.std.proofs.lemmas.Int.Digits.{digits_value_more, digits_more}
 use Rattle.std.proofs.lemmas.List.{take_all}
 use Rattle.std.proofs.lemmas.Str.Parse.{digit_at}
 use Rattle.std.specs.Str.Parse.{AllDigits, digits_value}
-use Rattle.numbers.proofs.Values.{reads_back, digit_value, value_take, decimal_of}
+use Rattle.numbers.proofs.Values.{reads_back, value_of_digit, value_take, decimal_of}
 use Rattle.numbers.proofs.read_number.Goals as goal
 use Rattle.numbers.proofs.read_number.Goals.{then-digit-lt48-via-then-digit-lt48, then-digit-lt48-via-else-digit-lt48+then-digit-gt57}
 
@@ -35,7 +35,7 @@ returns-then-number-from c x small e =
     let i = c.loop-digit.digit-index in
     let most : c.args.most < 2 ^ 32 = search rules in
     let r = reads_back text x (omega arith) e in
-    let d = digit_value (get_or text i 0) c.if-digit-lt48.false c.if-digit-gt57.false in
+    let d = value_of_digit (get_or text i 0) c.if-digit-lt48.false c.if-digit-gt57.false in
     let v = digits_value_more 10 text i c.loop-digit-test.true in
     omega (arith, value_take text (i + 1), c.loop-digit.invariant.1)
 
@@ -43,7 +43,7 @@ pub loop-digit-preserved : goal.loop-digit-preserved
 loop-digit-preserved c =
     let text = c.args.text.now in
     let i = c.loop-digit.digit-index in
-    let d = digit_value (get_or text i 0) c.if-digit-lt48.false c.if-digit-gt57.false in
+    let d = value_of_digit (get_or text i 0) c.if-digit-lt48.false c.if-digit-gt57.false in
     let v = digits_value_more 10 text i c.loop-digit-test.true in
     (digits_more 10 text i c.loop-digit-test.true c.loop-digit.invariant.0 (omega arith), omega (arith, c.loop-digit.invariant.1), omega arith)
 
