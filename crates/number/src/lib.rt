@@ -5,7 +5,9 @@
 // the enum then shows the number all the same, and no value of the case can have another.
 #![tactic(auto)]
 
-ghost use Rattle.std.specs.Prelude.{◌≡◌};
+ghost use Rattle.std.specs.Prelude.{◌≡◌, Some, decimal};
+
+use std::fmt;
 
 #[derive(Clone, Copy, Debug, PartialEq, Eq)]
 pub struct Number<const N: u8>;
@@ -16,5 +18,13 @@ impl<const N: u8> Number<N> {
         ensures { result ≡ N }
     {
         N
+    }
+}
+
+impl<const N: u8> fmt::Display for Number<N> {
+    ghost output = { λ _. Some (decimal N) };
+
+    fn fmt<W: fmt::Write>(&self, f: &mut fmt::Formatter<W>) -> fmt::Result {
+        write!(f, "{N}")
     }
 }
