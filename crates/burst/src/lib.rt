@@ -28,7 +28,7 @@ fn refusal_text(heap: Global, message: Message) -> Result<String, AllocError>
     let Message::Status(code, data) = message else {
         return Ok(String::new(heap));
     };
-    match status::read(code.byte(), data) {
+    match status::read(code.into(), data) {
         Ok(_) => Ok(String::new(heap)),
         Err(fault) => {
             let number = fault.number();

@@ -2,14 +2,19 @@
 ghost use Rattle.std.specs.Prelude.{◌≡◌};
 ghost use Rattle.frame.specs.Faults.{frame_fault_number, write_fault_number};
 
-use std::fmt;
+use thiserror::Error;
 
-#[derive(Clone, Copy, Debug, PartialEq, Eq)]
+#[derive(Clone, Copy, Debug, PartialEq, Eq, Error)]
 pub enum FrameFault {
+    #[error("1: fewer than 5 bytes are left")]
     TooShort = 1,
+    #[error("2: the byte is not FC")]
     NoSync = 2,
+    #[error("3: the length byte is under 5")]
     BadLength = 3,
+    #[error("4: fewer bytes are left than the length byte counts")]
     Incomplete = 4,
+    #[error("5: the check differs")]
     CheckDiffers = 5,
 }
 
@@ -21,22 +26,11 @@ impl FrameFault {
     }
 }
 
-impl fmt::Display for FrameFault {
-    fn fmt<W: fmt::Write>(&self, f: &mut fmt::Formatter<W>) -> fmt::Result {
-        let text = match self {
-            FrameFault::TooShort => "1: fewer than 5 bytes are left",
-            FrameFault::NoSync => "2: the byte is not FC",
-            FrameFault::BadLength => "3: the length byte is under 5",
-            FrameFault::Incomplete => "4: fewer bytes are left than the length byte counts",
-            FrameFault::CheckDiffers => "5: the check differs",
-        };
-        f.write_str(text)
-    }
-}
-
-#[derive(Clone, Copy, Debug, PartialEq, Eq)]
+#[derive(Clone, Copy, Debug, PartialEq, Eq, Error)]
 pub enum WriteFault {
+    #[error("6: there are more than 250 data bytes")]
     DataTooLong = 6,
+    #[error("7: the buffer is too short for the frame")]
     BufferTooShort = 7,
 }
 
@@ -45,15 +39,5 @@ impl WriteFault {
         ensures { result ≡ write_fault_number self }
     {
         self as u8
-    }
-}
-
-impl fmt::Display for WriteFault {
-    fn fmt<W: fmt::Write>(&self, f: &mut fmt::Formatter<W>) -> fmt::Result {
-        let text = match self {
-            WriteFault::DataTooLong => "6: there are more than 250 data bytes",
-            WriteFault::BufferTooShort => "7: the buffer is too short for the frame",
-        };
-        f.write_str(text)
     }
 }
