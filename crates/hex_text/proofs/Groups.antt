@@ -1,5 +1,7 @@
 -- A line as groups of two digits, with one blank between. Assumes nothing.
-use Rattle.std.proofs.Common.{◌≡◌, ◌≢◌, ℕ, zero, suc, ◌+◌, ◌/◌, ◌%◌, ◌<◌, false, eqb, List, [], ◌∷◌, ◌++◌, length, get_or, take, drop, map, subst, sym, refl, ap, ◌∙◌, arith}
+use Rattle.std.proofs.Common.{◌≡◌, ◌≢◌, ℕ, zero, suc, ◌+◌, ◌-◌, ◌^◌, ◌/◌, ◌%◌, ◌<◌, false, true, eqb, List, [], ◌∷◌, ◌++◌, length, get_or, take, drop, map, subst, sym, refl, ap, ◌∙◌, arith}
+use Rattle.std.proofs.lemmas.Fmt.{hex_byte}
+use Rattle.std.specs.Fmt.{padded_integral, format_spec, digits}
 use Rattle.std.proofs.lemmas.List.{take_more, get_or-map, length-map}
 use Rattle.std.proofs.lemmas.List.Splits.{slice_split_none, slice_split_at, join_with_byte-slice_split, length-slice_split}
 use Rattle.std.proofs.lemmas.Bool.Decides.{nat_tests}
@@ -46,6 +48,10 @@ pub nothing_spelled : (line items : List ℕ) → length line ≡ 0 → items �
 unfolding blanked
 nothing_spelled [] items h e = (subst (λ (l : List ℕ). Bytes l) (sym e) (λ k. omega arith), ap spelled (sym e))
 nothing_spelled (b ∷ line) items h e = absurd (omega arith)
+
+-- what a byte is printed as
+pub two_digits : (b : ℕ) → b < 256 → padded_integral (format_spec 32 0 4 2 (2 ^ 64 - 1)) false [] (digits 16 true b) ≡ pair b
+two_digits b fits = hex_byte true b fits
 
 blanked_append : (xs ys : List ℕ) → blanked (xs ++ ys) ≡ blanked xs ++ blanked ys
 unfolding blanked

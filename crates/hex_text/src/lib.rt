@@ -1,11 +1,12 @@
 // Bytes as text: two uppercase hexadecimal digits each, with one blank between.
 #![tactic(auto)]
 
-ghost use Rattle.std.specs.Prelude.{◌≡◌, IfOk, string_bytes};
+ghost use Rattle.std.specs.Prelude.{◌≡◌, IfOk, Some, string_bytes};
 ghost use Rattle.hex_text.specs.declared.HexFault.TheVariants.{NoMemory};
 ghost use Rattle.hex_text.specs.Spelled.{DigitOf, ByteOf, Parsed, blanked};
 
 use std::alloc::{AllocError, AllocFailed, Global};
+use std::fmt;
 
 #[derive(Clone, Copy, Debug, PartialEq, Eq)]
 pub enum HexFault {
@@ -65,13 +66,24 @@ pub fn parse(heap: Global, line: &[u8]) -> Result<Vec<u8>, HexFault>
     Ok(bytes)
 }
 
+// Bytes that are printed with a blank before each.
+#[derive(Clone, Copy, Debug)]
+pub struct Blanked<'a>(pub &'a [u8]);
+
+impl fmt::Display for Blanked<'_> {
+    ghost output = { λ x. Some (blanked x.0.now) };
+
+    fn fmt<W: fmt::Write>(&self, f: &mut fmt::Formatter<W>) -> fmt::Result {
+        for &byte in self.0 {
+            write!(f, " {byte:02X}")?;
+        }
+        Ok(())
+    }
+}
+
 // The bytes as text, each with a blank before it.
 pub fn spell_blanked(heap: Global, bytes: &[u8]) -> Result<String, AllocError>
     ensures { IfOk result (λ text. string_bytes text ≡ blanked bytes.now) }
 {
-    let mut text = String::new(heap);
-    for byte in bytes {
-        write!(text, " {byte:02X}")?;
-    }
-    Ok(text)
+    Blanked(bytes).to_string(heap)
 }
