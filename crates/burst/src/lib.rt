@@ -16,10 +16,10 @@ fn kind_word(message: Message) -> &'static str
     ensures { result.now ≡ kind_word (message_kind message.entry) }
 {
     match message {
-        Message::Status(_, _) => "status",
-        Message::Acknowledgement(_, _) => "acknowledgement",
-        Message::Setting(_, _) => "setting",
-        Message::Other(_, _) => "other",
+        Message::Status(..) => "status",
+        Message::Acknowledgement(..) => "acknowledgement",
+        Message::Setting(..) => "setting",
+        Message::Other(..) => "other",
     }
 }
 
