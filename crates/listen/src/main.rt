@@ -28,6 +28,7 @@ fn main(rt: HostRuntime) -> io::Result<()> {
     }
     let heap = rt.alloc();
     let mut input = BufReader::new(heap, rt.stdin())?;
+    // One buffer serves every line; `split` would make one for each.
     let mut line = Vec::new(heap);
     for _ in 0..u64::MAX {
         line.clear();
