@@ -19,19 +19,25 @@ fn a_pile_over_a_drawer_leaves_bytes_that_pass(rt: HostRuntime) -> Result<(), Fa
     starts[0] = 3;
     starts[1] = 1;
     let mut pile = Limit::new(starts, Tally::new(Drawer::new(&mut bytes, BILLS)));
-    assert_eq!(rt; run(&mut pile, &[
-            Step(0, Call::Promise(100), Ok(())),
-            Step(0, Call::Settle, Ok(())),
-            Step(0, Call::Promise(50), Ok(())),
-            Step(0, Call::Settle, Ok(())),
-            Step(0, Call::Promise(1), Err(LedgerFault::NoPlace(Number, 2))),
-            Step(1, Call::Promise(7), Ok(())),
-            Step(1, Call::GiveBack, Ok(())),
-            Step(1, Call::Promise(8), Ok(())),
-            Step(1, Call::Promise(9), Err(ALREADY_PROMISED)),
-            Step(2, Call::Promise(1), Err(LedgerFault::NoPlace(Number, 0))),
-            Step(14, Call::Settle, Err(NO_SUCH_HEAD)),
-        ]), Ok(()));
+    assert_eq!(rt;
+        run(
+            &mut pile,
+            &[
+                Step(0, Call::Promise(100), Ok(())),
+                Step(0, Call::Settle, Ok(())),
+                Step(0, Call::Promise(50), Ok(())),
+                Step(0, Call::Settle, Ok(())),
+                Step(0, Call::Promise(1), Err(LedgerFault::NoPlace(Number, 2))),
+                Step(1, Call::Promise(7), Ok(())),
+                Step(1, Call::GiveBack, Ok(())),
+                Step(1, Call::Promise(8), Ok(())),
+                Step(1, Call::Promise(9), Err(ALREADY_PROMISED)),
+                Step(2, Call::Promise(1), Err(LedgerFault::NoPlace(Number, 0))),
+                Step(14, Call::Settle, Err(NO_SUCH_HEAD)),
+            ]
+        ),
+        Ok(())
+    );
     assert_eq!(rt; asked(&pile, 0), (Ok(None), Ok(150), Ok(0)));
     assert_eq!(rt; asked(&pile, 1), (Ok(Some(8)), Ok(0), Ok(0)));
     assert_eq!(rt; pile.left(0), Ok(1));
