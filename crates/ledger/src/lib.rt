@@ -45,6 +45,7 @@ impl LedgerFault {
     pub fn number(self) -> u8
         ensures { result ≡ fault_number self }
     {
+        // Each number has a type of its own, so that no one pattern takes them all.
         match self {
             LedgerFault::NoSuchHead(number) => number.value(),
             LedgerFault::BadAmount(number) => number.value(),
