@@ -1,6 +1,6 @@
 // Each fault tells its own number, and prints it with a sentence.
-use crate::script::*;
 use ledger::{LedgerFault, StartFault};
+use ledger_script::{ALREADY_PROMISED, BAD_AMOUNT, NO_SUCH_HEAD, NONE_PROMISED};
 use number::Number;
 use std::test::Fail;
 
