@@ -2,7 +2,7 @@
 ghost use Rattle.std.specs.Prelude.{◌≡◌, map};
 ghost use Rattle.orders.specs.Orders.{fits_limits};
 ghost use Rattle.orders.specs.Counts.{heads_within, leaves_first};
-ghost use Rattle.orders.specs.Choice.{smallest_slack};
+ghost use Rattle.orders.specs.Choice.{smaller, smallest_slack};
 ghost use Rattle.orders.specs.Slots.{lowered, served};
 
 use super::turn::Turn;
@@ -38,22 +38,38 @@ pub fn leaves_first(others: &Places) -> bool
     (0..HEADS).all(|k| heads_within(others, k + 1) <= k)
 }
 
-// The head of smallest slack, the lowest number on a tie.
+// The better of a head found so far, with its slack, and this one: the smaller slack, the one found first on a tie.
+fn smaller(found: Option<(u8, u8)>, head: u8, place: Option<Turn>) -> Option<(u8, u8)>
+    ensures { result ≡ smaller found head place }
+{
+    match (found, place) {
+        (Some((_, slack)), Some(turn)) if turn.slack < slack => Some((head, turn.slack)),
+        (None, Some(turn)) => Some((head, turn.slack)),
+        _ => found,
+    }
+}
+
+// The head of smallest slack, the lowest number on a tie. `min` over pairs of slack and number says the same, and a slot
+// would take over 0.1 microseconds with it.
 pub fn smallest_slack(places: &Places) -> Option<u8>
     ensures { result ≡ smallest_slack places.now }
 {
     (0..HEADS as u8)
         .zip(places)
-        .filter_map(|(head, place)| place.map(|turn| (turn.slack, head)))
-        .min()
-        .map(|(_, head)| head)
+        .fold(None, |found, (head, place)| smaller(found, head, *place))
+        .map(|(head, _)| head)
 }
 
-// The places after a slot that is no head's: all slacks fall.
+// The places after a slot that is no head's: all slacks fall. Written in place, since with the array's `map` a slot takes
+// over 0.1 microseconds.
 fn lowered(places: &Places) -> Places
     ensures { result ≡ map lowered places.now }
 {
-    places.map(|place| place.map(Turn::lowered))
+    let mut next = *places;
+    for place in next.iter_mut() {
+        *place = place.map(Turn::lowered);
+    }
+    next
 }
 
 // The places after a slot for head h. A number over 13 is no head's.

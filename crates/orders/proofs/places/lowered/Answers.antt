@@ -1,15 +1,16 @@
-use Rattle.std.proofs.Common.{◌≡◌, ℕ, ◌<◌, length, get_or, Option, sym, ◌∙◌, rules, tests, arith}
-use Rattle.std.proofs.lemmas.List.{get_or-map, length-map, same_lists}
-use Rattle.orders.specs.declared.turn.Turn.{Turn}
+use Rattle.std.proofs.Common.{◌≡◌, ◌<◌, length, set, ap, ◌∙◌, rules, tests, arith}
+use Rattle.std.proofs.lemmas.List.{length-set}
+use Rattle.std.proofs.lemmas.List.Edits.{map_over_more}
 use Rattle.orders.specs.Slots.{lowered}
 use Rattle.orders.proofs.places.lowered.Goals as goal
 
-pub returns : goal.returns
-returns c =
+pub loop-place-preserved : goal.loop-place-preserved
+loop-place-preserved c =
     let t = c.args.places.now in
-    let each : (i : ℕ) (d : Option Turn) → i < length t → get_or c.map.result i d ≡ lowered (get_or t i d) =
-    λ i d lt. let at = c.map.ensures.items.at i d d (omega arith) in search (rules, tests) in
-    same_lists c.map.result _ (omega (arith, c.map.ensures.items.long, length-map t lowered))
-    (λ i d lt.
-    let here : i < length t = omega (arith, c.map.ensures.items.long) in
-    each i d here ∙ sym (get_or-map lowered t i d d here))
+    let next = c.loop-place.place-items in
+    let i = c.loop-place.place-index in
+    let here : i < length t = omega arith in
+    let lower : c.map.result ≡ lowered c.place-item.result = search (rules, tests) in (
+      omega (arith, length-set next i c.map.result, c.loop-place.invariant.0),
+      ap (set next i) lower ∙ map_over_more lowered t next i c.place-item.result here c.loop-place.invariant.1 c.place-item.is,
+    )
