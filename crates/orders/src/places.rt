@@ -62,7 +62,7 @@ pub fn smallest_slack(places: &Places) -> Option<u8>
 
 // The places after a slot that is no head's: all slacks fall. Written in place, since with the array's `map` a slot takes
 // over 0.1 microseconds.
-fn lowered(places: &Places) -> Places
+fn all_lowered(places: &Places) -> Places
     ensures { result ≡ map lowered places.now }
 {
     let mut next = *places;
@@ -76,7 +76,7 @@ fn lowered(places: &Places) -> Places
 pub fn after_slot(places: &Places, h: u8) -> Places
     ensures { result ≡ served places.now h }
 {
-    let mut next = lowered(places);
+    let mut next = all_lowered(places);
     if let Some(place) = places.get(usize::from(h)) {
         next[usize::from(h)] = place.map(Turn::restored);
     }

@@ -1,6 +1,6 @@
 use Rattle.std.proofs.Common.{◌≡◌, ◌++◌, map, length, take, drop}
 use Rattle.orders.specs.Slots.{lowered}
-use Rattle.orders.proofs.places.lowered.Given as goal
+use Rattle.orders.proofs.places.all_lowered.Given as goal
 
 abbrev pub invariant-loop-place : goal.invariant-loop-place
 invariant-loop-place l =
