@@ -1,5 +1,6 @@
 -- What a changed place, an lowered table and a served head do to counts, limits and slacks. Assumes nothing.
 use Rattle.std.proofs.Common.{◌≡◌, ℕ, zero, suc, ◌+◌, ◌-◌, ◌<◌, ◌≤◌, Bool, true, false, leb, [], ◌∷◌, map, length, set, is_some, Some, None, count_by, Option, sym, refl, ap, ◌∙◌, subst, ⊎_elim, arith}
+use Rattle.std.proofs.Math.ListN.{get_or-map}
 use Rattle.std.proofs.lemmas.Bool.{false≢true, eqb-true, eq-eqb, leb-true, leb-false, le-leb, lt-leb, and_parts, and_from, cases_Bool, cases_eq, cases_lt}
 use Rattle.std.proofs.lemmas.List.{get_or-set_same, get_or-set_other, get_or_past, length-map, set_past}
 use Rattle.std.proofs.lemmas.List.Sums.{sum_by-set, get_or-le-sum_by}
@@ -70,9 +71,7 @@ count_lowered p q same (place ∷ t) =
     omega (arith, count_cons p (lowered place) (map lowered t), count_cons q place t, ap one (same place), count_lowered p q same t)
 
 pub turn_lowered : (t : Table) (g : ℕ) → turn_of (map lowered t) g ≡ lowered (turn_of t g)
-turn_lowered [] g = refl
-turn_lowered (place ∷ t) zero = refl
-turn_lowered (place ∷ t) (suc g) = turn_lowered t g
+turn_lowered t g = get_or-map lowered t g None
 
 -- ---- a slot for the head itself
 pub slack_restored : (place : Option Turn) → slack_in (restored place) ≡ limit_in place

@@ -2,14 +2,17 @@
 ghost use Rattle.std.specs.Prelude.{◌≡◌};
 ghost use Rattle.turns.specs.Faults.{admission_number, dismissal_number};
 
-use std::fmt;
+use thiserror::Error;
 
 // Why a head was not admitted; the first cause that applies, from the top.
-#[derive(Clone, Copy, Debug, PartialEq, Eq)]
+#[derive(Clone, Copy, Debug, PartialEq, Eq, Error)]
 pub enum AdmissionFault {
+    #[error("{}: head number over 13", self.number())]
     NumberOver13 = 12,
+    #[error("{}: head admitted already", self.number())]
     AdmittedAlready = 13,
     // With this head there would be more heads than some head's limit allows, its own or another's.
+    #[error("{}: heads would outnumber a limit", self.number())]
     Outnumbered = 15,
 }
 
@@ -21,21 +24,12 @@ impl AdmissionFault {
     }
 }
 
-impl fmt::Display for AdmissionFault {
-    fn fmt<W: fmt::Write>(&self, f: &mut fmt::Formatter<W>) -> fmt::Result {
-        let number = self.number();
-        match *self {
-            AdmissionFault::NumberOver13 => write!(f, "{number}: head number over 13"),
-            AdmissionFault::AdmittedAlready => write!(f, "{number}: head admitted already"),
-            AdmissionFault::Outnumbered => write!(f, "{number}: heads would outnumber a limit"),
-        }
-    }
-}
-
 // Why a head was not dismissed; the first cause that applies, from the top.
-#[derive(Clone, Copy, Debug, PartialEq, Eq)]
+#[derive(Clone, Copy, Debug, PartialEq, Eq, Error)]
 pub enum DismissalFault {
+    #[error("{}: head number over 13", self.number())]
     NumberOver13 = 12,
+    #[error("{}: head not admitted", self.number())]
     NotAdmitted = 16,
 }
 
@@ -44,15 +38,5 @@ impl DismissalFault {
         ensures { result ≡ dismissal_number self }
     {
         self as u8
-    }
-}
-
-impl fmt::Display for DismissalFault {
-    fn fmt<W: fmt::Write>(&self, f: &mut fmt::Formatter<W>) -> fmt::Result {
-        let number = self.number();
-        match *self {
-            DismissalFault::NumberOver13 => write!(f, "{number}: head number over 13"),
-            DismissalFault::NotAdmitted => write!(f, "{number}: head not admitted"),
-        }
     }
 }
