@@ -33,24 +33,15 @@ impl Command {
     pub(crate) fn read(code: u8, data: &[u8]) -> Command
         ensures { result ≡ command_of (content code «data».now) }
     {
-        match data {
-            [] => match code {
-                0x11 => Command::StatusRequest,
-                0x40 => Command::Reset,
-                0x41 => Command::Stack,
-                0x43 => Command::Return,
-                0x50 => Command::Acknowledge,
-                _ => Command::Unknown,
-            },
-            [bit] => match (code, *bit) {
-                (0xc3, 0x00) => Command::Permit,
-                (0xc3, 0x01) => Command::Inhibit,
-                _ => Command::Unknown,
-            },
-            [_, _] => match code {
-                0xc0 | 0xc1 | 0xc5 => Command::Configure,
-                _ => Command::Unknown,
-            },
+        match (code, data) {
+            (0x11, []) => Command::StatusRequest,
+            (0x40, []) => Command::Reset,
+            (0x41, []) => Command::Stack,
+            (0x43, []) => Command::Return,
+            (0x50, []) => Command::Acknowledge,
+            (0xc0 | 0xc1 | 0xc5, [_, _]) => Command::Configure,
+            (0xc3, [0x01]) => Command::Inhibit,
+            (0xc3, [0x00]) => Command::Permit,
             _ => Command::Unknown,
         }
     }
