@@ -1,7 +1,7 @@
 // What a head is told to do, and how it replies.
 ghost use Rattle.std.specs.Prelude.{◌≡◌};
 ghost use Rattle.frame.specs.Frames.{content};
-ghost use Rattle.head.specs.Commands.{command_of, cell, done, echo_to};
+ghost use Rattle.head.specs.Commands.{command_of, cell, bit_after, done, echo_to};
 
 use crate::phase::Phase;
 use crate::phase::Phase::{
@@ -105,6 +105,17 @@ impl Command {
             (Self::Permit, Disabled(_)) => echo_to(Idle(Number)),
             (Self::Inhibit | Self::Permit, _) => ECHO,
             (Self::Stack | Self::Return | Self::Configure | Self::Unknown, _) => NO,
+        }
+    }
+
+    // The inhibit bit after this command, which C3H sets.
+    pub(crate) fn bit_after(self, inhibited: bool) -> bool
+        ensures { result ≡ bit_after inhibited self }
+    {
+        match self {
+            Self::Inhibit => true,
+            Self::Permit => false,
+            _ => inhibited,
         }
     }
 }

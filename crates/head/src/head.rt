@@ -83,17 +83,13 @@ impl Head {
         Ok(taken)
     }
 
-    // Does what a command says, and gives the reply, if any. C3H sets the inhibit bit.
+    // Does what a command says, and gives the reply, if any.
     fn obey(&mut self, command: Command) -> Option<Reply>
         ensures { (self.new, result) ≡ obeyed self.old command }
     {
         let (to, reply) = command.cell(self.phase);
         self.phase = to.unwrap_or(self.phase);
-        self.inhibited = match command {
-            Command::Inhibit => true,
-            Command::Permit => false,
-            _ => self.inhibited,
-        };
+        self.inhibited = command.bit_after(self.inhibited);
         reply
     }
 }
