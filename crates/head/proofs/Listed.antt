@@ -36,10 +36,10 @@ found (x ∷ []) q t e = grind (arith, met)
 found (x ∷ y ∷ xs) q t e = grind (arith, met, found (y ∷ xs) q t)
 
 -- No two targets of a row that stand for one move differ in whether it takes the bill.
-own_leads : (i : Bool) (p q : Phase) (t : Bool) → Among (own_moves i p) q t → leads (own_moves i p) q ≡ Some t
+pub own_leads : (i : Bool) (p q : Phase) (t : Bool) → Among (own_moves i p) q t → leads (own_moves i p) q ≡ Some t
 own_leads i p q t a = grind (arith, meets_it, takes_it)
 
-cut_leads : (p q : Phase) (t : Bool) → Among (power_cuts p) q t → leads (power_cuts p) q ≡ Some t
+pub cut_leads : (p q : Phase) (t : Bool) → Among (power_cuts p) q t → leads (power_cuts p) q ≡ Some t
 cut_leads p q t a = grind (arith, meets_it, takes_it)
 
 -- Only power cuts lead to the phases after a cut.
