@@ -1,5 +1,5 @@
 -- What each ledger call of a first report does to the money of its head. Assumes nothing.
-use Rattle.std.proofs.Common.{◌≡◌, ℕ, ◌+◌, ◌<◌, true, false, List, [], ◌∷◌, is_ok, Some, None, Ok, Err, Option, sym, refl, ◌∙◌, inl, inr, arith}
+use Rattle.std.proofs.Common.{◌≡◌, ℕ, ◌+◌, ◌<◌, true, false, List, [], ◌∷◌, is_ok, Some, None, Ok, Err, Option, refl, ◌∙◌, arith}
 use Rattle.std.specs.List.{AllByRecursion}
 use Rattle.sheet.specs.declared.sheet.Draft.{Draft}
 use Rattle.ledger.specs.Held.{Held, Heads}
@@ -13,8 +13,8 @@ use Rattle.reaction.specs.Calls.{called_all}
 use Rattle.runs.specs.declared.Allowance.{Allowance}
 use Rattle.runs.specs.Worlds.{Taken, Past, HeardSlot}
 use Rattle.runs.specs.Law.{is_among}
-use Rattle.runs.proofs.Basics.{every_map, not_some}
-use Rattle.runs.proofs.Classes.{Class, quiet, lying, entering, boxed, stored}
+use Rattle.runs.proofs.Basics.{every_map}
+use Rattle.runs.proofs.Classes.{Class}
 use Rattle.runs.proofs.Kept.{Settled, AllSettled, Owing, Agrees, Prompt, Calm, Boxed, Lies}
 use Rattle.runs.proofs.OwnMoves.{untaken_none}
 use Rattle.runs.proofs.Frames.{boxed_settled}
@@ -68,12 +68,7 @@ module _ (sheet : Option Draft) (b : ℕ) (v v' : Held) (p : Past) where
   agrees_promise C l c i total k h = grind (arith, untaken_none)
 
   pub all_settled : (C : Class) (a : ℕ) → v.promised ≡ Some a → v'.credited ≡ v.credited + a → Boxed C → Agrees C sheet b v p → AllSettled sheet v' (settled_past p)
-  all_settled quiet a is total k h = absurd k
-  all_settled (lying c) a is total k h = absurd k
-  all_settled (entering c) a is total k h = absurd k
-  all_settled boxed a is total k (inl h) = not_some a (sym h.1 ∙ is)
-  all_settled boxed a is total k (inr h) = same_total total (owed_settled sheet v a p.promised p.credited p.taken is h)
-  all_settled stored a is total k h = absurd k
+  all_settled C a is total k h = let owing : Owing sheet v p.promised p.credited p.taken → Settled sheet (v.credited + a) (p.promised ∷ p.credited) p.taken = owed_settled sheet v a p.promised p.credited p.taken is in grind (arith, owing)
 
 pub agrees_settled : (sheet : Option Draft) (b : ℕ) (v : Held) (p : Past) (C : Class) → v.promised ≡ None → Boxed C → AllSettled sheet v p → Agrees C sheet b v p
 agrees_settled sheet b v p C none k h = grind arith

@@ -1,5 +1,5 @@
 -- Phases by what they mean for the money: how own moves and commands lead from one class to another, what a status tells, and how the hub reacts to it. Assumes nothing.
-use Rattle.std.proofs.Common.{◌≡◌, ℕ, Bool, true, false, cond, eqb, List, [], ◌∷◌, Some, None, Option, unwrap_or, sym, refl, subst, arith}
+use Rattle.std.proofs.Common.{◌≡◌, ℕ, Bool, true, false, cond, eqb, [], ◌∷◌, Some, None, Option, unwrap_or, refl, arith}
 use Rattle.frame.specs.Frames.{Content, content}
 use Rattle.ledger_calls.specs.declared.Call.TheVariants.{Settle, GiveBack}
 use Rattle.reaction.specs.Reactions.{row, priced_reply, bill_reply, reaction_to}
@@ -14,7 +14,7 @@ use Rattle.sheet.specs.Sheets.{value_of, is_enabled}
 use Rattle.sheet.specs.declared.sheet.Sheet.{Sheet}
 use Rattle.head.specs.Commands.{cell, command_of}
 use Rattle.head.specs.Moves.{own_moves, power_cuts, leads, Moves, own, power_cut, held_byte}
-use Rattle.head.specs.Phases.{code, held, status, error_byte, ReadAsStatus}
+use Rattle.head.specs.Phases.{code, held, status, ReadAsStatus}
 use Rattle.head.specs.declared.head.Head.{Head}
 use Rattle.head.specs.declared.phase.ErrorCode.{ErrorCode}
 use Rattle.head.specs.declared.phase.Phase.{Phase}
@@ -60,12 +60,6 @@ pub data Goes : Class → Class → (brings takes : Bool) → (byte : ℕ) → T
 
 abbrev GoesTo : Class → Phase → Bool → Type 0
 GoesTo C q t = Goes C (class q) (eqb (code q) 0x13) t (held_byte (held q))
-
-no_escrow : (e : ErrorCode) → eqb (error_byte e) 0x13 ≡ false
-no_escrow e = grind arith
-
-errs : (C : Class) (e : ErrorCode) (f : ℕ) → Goes C quiet false false f → GoesTo C (Error e f) false
-errs C e f g = subst (λ b. Goes C quiet b false f) (sym (no_escrow e)) g
 
 own_goes : (i : Bool) (p q : Phase) (t : Bool) → leads (own_moves i p) q ≡ Some t → GoesTo (class p) q t
 own_goes i p q t a = grind (arith, stays, brought, refuses, ejects, takes, holds, forgets, again)
@@ -134,11 +128,8 @@ ClassStays m p = class (phase_after p m) ≡ class p
 both_stay : (p : Phase) → ClassStays (content 0xc0 (0 ∷ 0 ∷ [])) p × ClassStays (content 0xc3 (0 ∷ [])) p
 both_stay p = grind arith
 
-options_stay : (bytes : List ℕ) (p : Phase) → ClassStays (content 0xc5 bytes) p
-options_stay bytes p = grind (arith, both_stay)
-
 pub setting_stays : (s : Sheet) (i : ℕ) (m : Content) → nth (settings_of s) i ≡ Some m → (p : Phase) → class (phase_after p m) ≡ class p
-setting_stays s i m e p = grind (arith, both_stay, options_stay)
+setting_stays s i m e p = grind (arith, both_stay)
 
 -- STATUSES
 
@@ -206,8 +197,6 @@ reacts u (Up42 n c) = settles_reset
 reacts u (Error e f) = reacts_error u e f
 
 -- each status reads as itself
-error_reads : (e : ErrorCode) (f : ℕ) → ReadAsStatus (Error e f)
-error_reads e f = grind arith
 
 pub status_reads : (p : Phase) → ReadAsStatus p
 status_reads p = grind arith

@@ -1,24 +1,20 @@
 -- What the frames of a slot do to a head keeps what is so of the money. Assumes nothing.
-use Rattle.std.proofs.Common.{◌≡◌, ℕ, ◌<◌, true, List, is_some, None, Option, sym, subst, arith}
+use Rattle.std.proofs.Common.{◌≡◌, ℕ, true, List, is_some, None, Option, sym, subst, arith}
 use Rattle.frame.specs.Frames.{Content}
 use Rattle.sheet.specs.declared.sheet.Draft.{Draft}
 use Rattle.ledger.specs.Held.{Held}
 use Rattle.head.specs.declared.phase.Phase.{Phase}
 use Rattle.runs.specs.declared.Allowance.{Allowance}
 use Rattle.runs.specs.declared.Allowance.TheVariants.{One}
-use Rattle.runs.specs.Worlds.{Taken, Past, HeardSlot}
-use Rattle.runs.specs.Law.{is_among}
+use Rattle.runs.specs.Worlds.{Past, HeardSlot}
 use Rattle.runs.proofs.Basics.{every_map}
 use Rattle.runs.proofs.Classes.{Class, class, boxed, stored, Order, Turns, phase_after, turns, setting_stays, tells}
-use Rattle.runs.proofs.Kept.{Owing, AllSettled, Agrees, Kept, Old, Heard, Awaits, Sent, ordered, setting}
+use Rattle.runs.proofs.Kept.{AllSettled, Agrees, Kept, Old, Heard, Awaits, Sent, ordered, setting}
 
 module _ (sheet : Option Draft) (b : ℕ) (v : Held) (p : Past) where
-  nothing_owed : (taken : List Taken) → v.promised ≡ None → Owing sheet v p.promised p.credited taken → ⊥
-  nothing_owed taken none o = grind arith
-
   -- where nothing is promised, a bill in the box is credited
   pub boxed_settled : v.promised ≡ None → Agrees boxed sheet b v p → Agrees stored sheet b v p
-  boxed_settled none h = grind (arith, nothing_owed)
+  boxed_settled none h = grind arith
 
   order_keeps : {o : Order} {C D : Class} → Turns o C D → (l : Allowance) → is_some sheet ≡ true → Awaits o l sheet C b v p → Agrees C sheet b v p → Agrees D sheet b v p
   order_keeps go l some r h = grind (arith, boxed_settled)
@@ -33,7 +29,7 @@ module _ (sheet : Option Draft) (b : ℕ) (v : Held) (p : Past) where
 
   -- if all bills taken are credited, then those taken before a slot are
   pub settled_old : (n : ℕ) → AllSettled sheet v p → Old n p
-  settled_old n s = every_map (λ t. is_among t.bill p.credited ≡ true) (λ t. t.slot < n → is_among t.bill p.credited ≡ true) (λ t h lt. h) p.taken s.all
+  settled_old n s = every_map _ _ (λ t h lt. h) p.taken s.all
 
   -- when the poll arrives, what the answer tells stands
   pub answer_stands : (n : ℕ) (q : Phase) → Agrees (class q) sheet b v p → Heard n One (tells q) b (class q) b p

@@ -8,20 +8,17 @@ use Rattle.runs.specs.Law.{worth_of, is_taken, owed, EveryBoxCloses, EveryTakenB
 use Rattle.runs.proofs.Basics.{not_some}
 use Rattle.runs.proofs.HubSteps.{hub_kept}
 use Rattle.runs.proofs.Classes.{Class, class}
-use Rattle.runs.proofs.Kept.{Untaken, Owing, Agrees, MoneyKeptIn}
+use Rattle.runs.proofs.Kept.{Owing, Agrees, MoneyKeptIn}
 use Rattle.runs.proofs.OwnMoves.{untaken_none, untaken_entering}
 use Rattle.runs.proofs.Steps.{step_keeps}
 
 -- WHAT IS SO OF THE MONEY CLOSES THE BOX
 
-settled_closes : (o : Option ℕ) (total bill worth : ℕ) (taken : List Taken) → total ≡ worth → Untaken o bill taken → total + owed o (is_taken bill taken) ≡ worth
-settled_closes o total bill worth taken e u = grind arith
-
 owing_closes : (sheet : Option Draft) (v : Held) (bill : ℕ) (credited : List ℕ) (taken : List Taken) → Owing sheet v bill credited taken → v.credited + owed v.promised (is_taken bill taken) ≡ worth_of sheet taken
 owing_closes sheet v bill credited taken h = grind arith
 
 closes : (C : Class) (sheet : Option Draft) (b : ℕ) (v : Held) (p : Past) → Agrees C sheet b v p → v.credited + owed v.promised (is_taken p.promised p.taken) ≡ worth_of sheet p.taken
-closes C sheet b v p h = grind (arith, settled_closes, owing_closes, untaken_none, untaken_entering)
+closes C sheet b v p h = grind (arith, owing_closes, untaken_none, untaken_entering)
 
 -- RUNS
 

@@ -1,5 +1,5 @@
 -- Own moves keep what is so of the money. Assumes nothing.
-use Rattle.std.proofs.Common.{◌≡◌, ℕ, suc, ◌≤◌, Bool, true, false, cond, List, [], ◌∷◌, is_some, None, Option, refl, inl, inr, arith}
+use Rattle.std.proofs.Common.{◌≡◌, ℕ, suc, ◌≤◌, Bool, true, false, cond, List, [], ◌∷◌, None, Option, refl, inl, inr, arith}
 use Rattle.std.specs.List.{AllByRecursion}
 use Rattle.frame.specs.Frames.{Content}
 use Rattle.sheet.specs.declared.sheet.Draft.{Draft}
@@ -11,7 +11,7 @@ use Rattle.runs.specs.Steps.{taking}
 use Rattle.runs.specs.Law.{is_taken}
 use Rattle.runs.proofs.Basics.{every_map}
 use Rattle.runs.proofs.Classes.{Class, Goes, stays, brought, refuses, ejects, takes, holds, forgets, again, Order, Told, tells}
-use Rattle.runs.proofs.Kept.{Untaken, Agrees, Priced, Prompt, Kept, Tied, NoneLeft, Calm, Boxed, Lies, Old, Heard, Ready, Safe, Awaits, Sent, ordered, setting, OnLine}
+use Rattle.runs.proofs.Kept.{Untaken, Agrees, Priced, Prompt, Kept, Calm, Boxed, Lies, Old, Heard, Ready, Safe, Awaits, Sent, ordered, setting, OnLine}
 
 new_number : (b : ℕ) (ts : List Taken) → AllByRecursion (λ t. t.bill ≤ b) ts → is_taken (suc b) ts ≡ false
 new_number b [] h = refl
@@ -29,12 +29,6 @@ pub data Loses : Allowance → Allowance → Type 0 where
   still_free : Loses Free Free
   the_one : Loses One Spent
 
-loses_none : {l m : Allowance} → Loses l m → NoneLeft l → ⊥
-loses_none l h = grind arith
-
-loses_tied : {l m : Allowance} → Loses l m → Tied l → NoneLeft m
-loses_tied l h = grind arith
-
 calm_moves : {C D : Class} {x y : Bool} {c : ℕ} → Goes C D x y c → Calm C → Calm D
 calm_moves go h = grind arith
 
@@ -43,9 +37,6 @@ boxed_moves go h = grind arith
 
 safe_moves : {C D : Class} {x y : Bool} {c : ℕ} → Goes C D x y c → (v : Held) → Safe C v → Safe D v
 safe_moves go v h = grind arith
-
-priced_some : (sheet : Option Draft) (taken : List Taken) → is_some sheet ≡ true → Priced sheet taken
-priced_some sheet taken is = grind arith
 
 module _ (sheet : Option Draft) (b n : ℕ) (v : Held) (p : Past) where
   -- the number of the latest bill, and what is remembered, after a move that brings a bill or takes it
@@ -59,7 +50,7 @@ module _ (sheet : Option Draft) (b n : ℕ) (v : Held) (p : Past) where
   below_moves go h = grind (arith, every_map)
 
   priced_moves : {C D : Class} {x y : Bool} {c : ℕ} → Goes C D x y c → Agrees C sheet b v p → Priced sheet p.taken → Priced sheet (past_after y c).taken
-  priced_moves go a h = grind (arith, priced_some)
+  priced_moves go a h = grind arith
 
   agrees_moves : {C D : Class} {x y : Bool} {c : ℕ} → Goes C D x y c → AllByRecursion (λ t. t.bill ≤ b) p.taken → Agrees C sheet b v p → Agrees D sheet (bill_after x) v (past_after y c)
   agrees_moves stays low h = h
@@ -93,10 +84,10 @@ module _ (sheet : Option Draft) (b n : ℕ) (v : Held) (p : Past) where
   old_moves false c h = h
 
   lies_moves : {C D : Class} {x y : Bool} {c : ℕ} {l m : Allowance} → Goes C D x y c → Loses l m → (k i : ℕ) → Agrees C sheet b v p → Lies l k i C b p → Lies m k i D (bill_after x) (past_after y c)
-  lies_moves go less k i a h = grind (arith, loses_none, loses_tied)
+  lies_moves go less k i a h = grind arith
 
   ready_moves : {C D : Class} {x y : Bool} {c : ℕ} {l m : Allowance} → Goes C D x y c → Loses l m → Ready l sheet C b v p → Ready m sheet D (bill_after x) v (past_after y c)
-  ready_moves go less h = grind (arith, loses_none, loses_tied)
+  ready_moves go less h = grind arith
 
   heard_moves : {C D : Class} {x y : Bool} {c : ℕ} {l m : Allowance} → Goes C D x y c → Loses l m → (s : Told) (i : ℕ) → Agrees C sheet b v p → Heard n l s i C b p → Heard n m s i D (bill_after x) (past_after y c)
   heard_moves go less s i a h = grind (arith, calm_moves, lies_moves, old_moves, boxed_moves)
