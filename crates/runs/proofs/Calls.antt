@@ -1,9 +1,9 @@
 -- What each ledger call of a first report does to the money of its head. Assumes nothing.
-use Rattle.std.proofs.Common.{◌≡◌, ℕ, ◌+◌, ◌<◌, true, false, List, [], ◌∷◌, is_ok, Some, None, Ok, Err, Option, refl, ◌∙◌, arith}
+use Rattle.std.proofs.Common.{◌≡◌, ℕ, ◌+◌, ◌<◌, true, List, [], ◌∷◌, is_ok, Some, None, Option, refl, arith}
 use Rattle.std.specs.List.{AllByRecursion}
 use Rattle.sheet.specs.declared.sheet.Draft.{Draft}
 use Rattle.ledger.specs.Held.{Held, Heads}
-use Rattle.ledger.specs.Answers.{Answer, end_answer}
+use Rattle.ledger.specs.Answers.{end_answer}
 use Rattle.ledger.specs.Laws.{OthersStay}
 use Rattle.ledger.proofs.CallLaws.{ends_as_listed, promise_accepted, settle_accepted, give_back_accepted, refused_changes_nothing}
 use Rattle.ledger_calls.specs.Calls.{call_after}
@@ -20,10 +20,6 @@ use Rattle.runs.proofs.OwnMoves.{untaken_none}
 use Rattle.runs.proofs.Frames.{boxed_settled}
 
 -- THE OTHER HEADS
-
-by_answer : {A : Type 0} (r : Answer) → (is_ok r ≡ true → A) → (is_ok r ≡ false → A) → A
-by_answer (Ok done) yes-so not_so = yes-so refl
-by_answer (Err e) yes-so not_so = not_so refl
 
 call_others : (t : Heads) (h : ℕ) (c : Call) → OthersStay h t (call_after t h c)
 call_others t h (Promise a) k ne = grind (arith, promise_accepted, refused_changes_nothing)
@@ -48,9 +44,6 @@ settled_past p = record { promised = p.promised; taken = p.taken; credited = p.p
 
 abbrev pub promised_past : ℕ → Past → Past
 promised_past i p = record { promised = i; taken = p.taken; credited = p.credited }
-
-same_total : {sheet : Option Draft} {m n : ℕ} {credited : List ℕ} {taken : List Taken} → n ≡ m → Settled sheet m credited taken → Settled sheet n credited taken
-same_total e s = record { sum = e ∙ s.sum; all = s.all }
 
 grows : (b x : ℕ) (xs : List ℕ) → is_among b xs ≡ true → is_among b (x ∷ xs) ≡ true
 grows b x xs h = grind arith

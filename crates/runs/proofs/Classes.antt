@@ -1,5 +1,5 @@
 -- Phases by what they mean for the money: how own moves and commands lead from one class to another, what a status tells, and how the hub reacts to it. Assumes nothing.
-use Rattle.std.proofs.Common.{◌≡◌, ℕ, Bool, true, false, cond, eqb, [], ◌∷◌, Some, None, Option, unwrap_or, refl, arith}
+use Rattle.std.proofs.Common.{◌≡◌, ℕ, Bool, true, false, cond, eqb, [], Some, None, Option, unwrap_or, refl, arith}
 use Rattle.frame.specs.Frames.{Content, content}
 use Rattle.ledger_calls.specs.declared.Call.TheVariants.{Settle, GiveBack}
 use Rattle.reaction.specs.Reactions.{row, priced_reply, bill_reply, reaction_to}
@@ -97,39 +97,12 @@ pub data Turns : Order → Class → Class → Type 0 where
   stores : Turns reset boxed stored
   lets_go : Turns acknowledge boxed stored
 
-abbrev TurnsBy : Order → Phase → Type 0
-TurnsBy o p = Turns o (class p) (class (phase_after p (order_content o)))
-
-each_turns : (p : Phase) → TurnsBy stack p × TurnsBy back p × TurnsBy reset p × TurnsBy acknowledge p
-each_turns (Idle n) = (same, same, same, same)
-each_turns (Accepting n c) = (same, same, same, same)
-each_turns (Escrow n c) = (stacks, returns, resets, same)
-each_turns (Stacking n c) = (same, same, breaks_off, same)
-each_turns (Vend n c) = (same, same, stores, lets_go)
-each_turns (Stacked n c) = (same, same, same, same)
-each_turns (Rejecting n d) = (same, same, same, same)
-each_turns (Returning n) = (same, same, same, same)
-each_turns (Disabled n) = (same, same, same, same)
-each_turns (Init n) = (same, same, same, same)
-each_turns (Storing n c) = (same, same, same, same)
-each_turns (Up40 n) = (same, same, same, same)
-each_turns (Up41 n) = (same, same, same, same)
-each_turns (Up42 n c) = (same, same, stores, same)
-each_turns (Error e f) = (same, same, same, same)
-
 pub turns : (o : Order) (p : Phase) → Turns o (class p) (class (phase_after p (order_content o)))
 turns o p = grind (arith, same, stacks, returns, resets, breaks_off, stores, lets_go)
 
 -- The settings leave the class.
-abbrev ClassStays : Content → Phase → Type 0
-ClassStays m p = class (phase_after p m) ≡ class p
-
--- two data bytes after C0H, and C3H with 00H
-both_stay : (p : Phase) → ClassStays (content 0xc0 (0 ∷ 0 ∷ [])) p × ClassStays (content 0xc3 (0 ∷ [])) p
-both_stay p = grind arith
-
 pub setting_stays : (s : Sheet) (i : ℕ) (m : Content) → nth (settings_of s) i ≡ Some m → (p : Phase) → class (phase_after p m) ≡ class p
-setting_stays s i m e p = grind (arith, both_stay)
+setting_stays s i m e p = grind arith
 
 -- STATUSES
 
@@ -197,6 +170,5 @@ reacts u (Up42 n c) = settles_reset
 reacts u (Error e f) = reacts_error u e f
 
 -- each status reads as itself
-
 pub status_reads : (p : Phase) → ReadAsStatus p
 status_reads p = grind arith

@@ -1,5 +1,5 @@
 -- Marks tell calls of the turn table, so what holds of all such calls holds of the marks. Assumes nothing.
-use Rattle.std.proofs.Common.{◌≡◌, ℕ, ◌+◌, cond, eqb, List, [], ◌∷◌, ◌++◌, map, length, is_some, Some, None, Option, sym, refl, subst, arith}
+use Rattle.std.proofs.Common.{◌≡◌, ℕ, ◌+◌, cond, eqb, List, [], ◌∷◌, ◌++◌, map, length, Some, None, Option, sym, refl, subst, arith}
 use Rattle.orders.specs.Orders.{times}
 use Rattle.orders.specs.Tables.{Table, empty_table}
 use Rattle.orders.proofs.Keeps.{Keeps}
@@ -42,9 +42,6 @@ marks_keep ms told = subst Keeps (sym (table_told empty_table ms told)) (calls_k
 stay_told : (h : ℕ) (t : Table) (ms : List Mark) → Faithful t ms → StaysAdmitted h t ms → turns.StaysAdmitted h t (calls_in ms)
 stay_told h t [] told stay = stay
 stay_told h t (m ∷ ms) (next, slot, told) stay = grind (arith, stay_told h m.table ms told stay.1)
-
-length_with : (slot : Option ℕ) (later : List ℕ) → length (with_slot slot later) ≡ cond (is_some slot) 1 0 + length later
-length_with slot later = grind arith
 
 slots_told : (t : Table) (ms : List Mark) → Faithful t ms → slots_in ms ≡ length (slots t (calls_in ms))
 slots_told t [] told = refl
