@@ -39,8 +39,9 @@ const TARGETS: [Phase; 26] = [
     Up42(Number, 0x63),
 ];
 
-// A mark for each target, a letter so that a row is one line: '.' it is refused, 'm' the head moves, 't' it moves and takes the bill, 'c' its power
-// is cut, 'C' its power is cut and it takes the bill. The bars only part the groups of targets:
+// A mark for each target, a letter so that a row is one line: '.' it is refused, 'm' the head moves, 't' it moves and
+// takes the bill, 'c' its power is cut, 'C' its power is cut and it takes the bill. The bars only part the groups of
+// targets:
 //  Idle Disabled | Accepting | Escrow | Stacking | Vend | Stacked | Rejecting | Returning | Init | Storing | Error | Up
 struct Row(Phase, bool, &'static [u8]);
 
