@@ -13,26 +13,25 @@ fn send(code: u8, data: &[u8], buffer: &mut [u8]) -> usize
     requires room { 7 ≤ length buffer.old }
     ensures { (buffer.new, result) ≡ written (Some (content code «data».now)) buffer.old }
 {
-    match frame::write(code, data, buffer) {
-        Ok(length) => length,
-        Err(_) => unreachable(),
-    }
+    frame::write(code, data, buffer).unwrap()
 }
 
-// Writes the reply to a message, and tells its length, 0 for none.
-pub(crate) fn answer<'a>(reply: Reply, message: Message<'a>, buffer: &mut [u8]) -> usize
+// Writes the reply to a message, and tells its length.
+pub(crate) fn answer(reply: Reply, message: Message, buffer: &mut [u8]) -> usize
     requires short { EchoShort reply (message_content message) }
     requires room { 7 ≤ length buffer.old }
-    ensures { (buffer.new, result) ≡ written (reply_content reply (message_content message.entry)) buffer.old }
+    ensures { (buffer.new, result) ≡ written (Some (reply_content reply (message_content message.entry))) buffer.old }
 {
     match reply {
-        Reply::Status(phase) => match phase.status_detail() {
-            Some(detail) => send(phase.status_code(), &[detail], buffer),
-            None => send(phase.status_code(), &[], buffer),
-        },
+        Reply::Status(phase) => {
+            send(
+                phase.status_code(),
+                phase.status_detail().as_slice(),
+                buffer,
+            )
+        }
         Reply::Acknowledgement(code) => send(code.value(), &[], buffer),
         Reply::InvalidCommand(code) => send(code.value(), &[], buffer),
         Reply::Echo => send(message.command(), message.data(), buffer),
-        Reply::Silence => 0,
     }
 }

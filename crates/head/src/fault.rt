@@ -1,11 +1,15 @@
 // Why a head refuses. The numbers are part of the interface.
+//
+// Each call has a fault of its own, also where that has one case: so the type of its answer says which refusals
+// it can give.
 ghost use Rattle.std.specs.Prelude.{◌≡◌};
 ghost use Rattle.head.specs.Faults.{move_fault_number, receive_fault_number};
 
-use std::fmt;
+use thiserror::Error;
 
-#[derive(Clone, Copy, Debug, PartialEq, Eq)]
+#[derive(Clone, Copy, Debug, PartialEq, Eq, Error)]
 pub enum MoveFault {
+    #[error("20: the head does not move there from its phase")]
     NotListed = 20,
 }
 
@@ -17,17 +21,9 @@ impl MoveFault {
     }
 }
 
-impl fmt::Display for MoveFault {
-    fn fmt<W: fmt::Write>(&self, f: &mut fmt::Formatter<W>) -> fmt::Result {
-        let text = match self {
-            MoveFault::NotListed => "20: the head does not move there from its phase",
-        };
-        f.write_str(text)
-    }
-}
-
-#[derive(Clone, Copy, Debug, PartialEq, Eq)]
+#[derive(Clone, Copy, Debug, PartialEq, Eq, Error)]
 pub enum ReceiveFault {
+    #[error("7: the buffer is too short for a head's answer")]
     BufferTooShort = 7,
 }
 
@@ -36,14 +32,5 @@ impl ReceiveFault {
         ensures { result ≡ receive_fault_number self }
     {
         self as u8
-    }
-}
-
-impl fmt::Display for ReceiveFault {
-    fn fmt<W: fmt::Write>(&self, f: &mut fmt::Formatter<W>) -> fmt::Result {
-        let text = match self {
-            ReceiveFault::BufferTooShort => "7: the buffer is too short for a head's answer",
-        };
-        f.write_str(text)
     }
 }

@@ -8,11 +8,8 @@ ghost use Rattle.head.specs.Moves.{MovesAsListed, moved};
 use crate::answer::answer;
 use crate::command::{Command, Reply};
 use crate::fault::{MoveFault, ReceiveFault};
+use crate::moves::{own_move, power_cut};
 use crate::phase::Phase;
-use crate::phase::Phase::{
-    Accepting, Disabled, Error, Escrow, Idle, Init, Rejecting, Returning, Stacked, Stacking,
-    Storing, Up40, Up41, Up42, Vend,
-};
 use number::Number;
 
 // The longest answer: an echo with two data bytes.
@@ -32,7 +29,7 @@ impl Head {
         ensures moves { MovesAsListed }
     {
         Head {
-            phase: Up40(Number),
+            phase: Phase::Up40(Number),
             inhibited: true,
         }
     }
@@ -50,8 +47,10 @@ impl Head {
     }
 
     // Takes received bytes, does what the message heard in them says, writes the answer's frame to the start of the
-    // buffer, whose rest stays, and tells its length, 0 for no answer. The buffer must have room for the longest
-    // answer, whatever the answer is.
+    // buffer, whose rest stays, and tells its length. The buffer must have room for the longest answer, whatever the
+    // answer is.
+    //
+    // The length is 0 where there is no answer: whoever puts that many bytes of the buffer on the line puts none.
     pub fn receive(&mut self, received: &[u8], buffer: &mut [u8]) -> Result<usize, ReceiveFault>
         ensures answer { result ≡ receive_answer self.old received.now buffer.old }
         ensures after { self.new ≡ head_receiving self.old received.now result }
@@ -64,7 +63,9 @@ impl Head {
             return Ok(0);
         };
         let message = heard.message;
-        let reply = self.obey(Command::read(message.command(), message.data()));
+        let Some(reply) = self.obey(Command::read(message.command(), message.data())) else {
+            return Ok(0);
+        };
         Ok(answer(reply, message, buffer))
     }
 
@@ -72,139 +73,23 @@ impl Head {
     pub fn make_move(&mut self, to: Phase) -> Result<bool, MoveFault>
         ensures { (self.new, result) ≡ moved self.old to }
     {
-        match (self.phase, to) {
-            (Idle(_), Accepting(_, 0x61..=0x68)) => {
-                self.phase = to;
-                Ok(false)
-            }
-            (Accepting(_, bill), Escrow(_, same)) if same == bill => {
-                self.phase = to;
-                Ok(false)
-            }
-            (Accepting(..) | Escrow(..) | Stacking(..), Rejecting(_, 0x71..=0x7f)) => {
-                self.phase = to;
-                Ok(false)
-            }
-            (Storing(_, bill), Vend(_, same)) if same == bill => {
-                self.phase = to;
-                Ok(false)
-            }
-            (Stacking(_, bill), Vend(_, same)) if same == bill => {
-                self.phase = to;
-                Ok(true)
-            }
-            (Stacked(..) | Rejecting(..) | Returning(_) | Init(_) | Storing(..), Disabled(_))
-                if self.inhibited => {
-                self.phase = to;
-                Ok(false)
-            }
-            (Stacked(..) | Rejecting(..) | Returning(_) | Init(_) | Storing(..), Idle(_))
-                if !self.inhibited => {
-                self.phase = to;
-                Ok(false)
-            }
-            (Idle(_) | Stacked(..) | Rejecting(..) | Returning(_) | Disabled(_), Error(..)) => {
-                self.phase = to;
-                Ok(false)
-            }
-            (Error(..), Init(_)) => {
-                self.phase = to;
-                Ok(false)
-            }
-            // Power cuts, which set the inhibit bit.
-            (
-                Idle(_)
-                | Accepting(..)
-                | Stacked(..)
-                | Rejecting(..)
-                | Returning(_)
-                | Disabled(_)
-                | Init(_)
-                | Storing(..)
-                | Up40(_)
-                | Error(..),
-                Up40(_),
-            ) => {
-                self.phase = to;
-                self.inhibited = true;
-                Ok(false)
-            }
-            (
-                Accepting(..) | Escrow(..) | Stacking(..) | Rejecting(..) | Returning(_) | Up41(_),
-                Up41(_),
-            ) => {
-                self.phase = to;
-                self.inhibited = true;
-                Ok(false)
-            }
-            (Vend(_, bill) | Stacked(_, bill) | Storing(_, bill) | Up42(_, bill), Up42(_, same))
-                if same == bill => {
-                self.phase = to;
-                self.inhibited = true;
-                Ok(false)
-            }
-            (Stacking(_, bill), Up42(_, same)) if same == bill => {
-                self.phase = to;
-                self.inhibited = true;
-                Ok(true)
-            }
-            _ => Err(MoveFault::NotListed),
-        }
+        let own = own_move(self.phase, self.inhibited, to);
+        let taken = own
+            .or(power_cut(self.phase, to))
+            .ok_or(MoveFault::NotListed)?;
+        self.phase = to;
+        // A power cut sets the inhibit bit.
+        self.inhibited |= own.is_none();
+        Ok(taken)
     }
 
-    // Does what a command says, and gives the reply.
-    fn obey(&mut self, command: Command) -> Reply
+    // Does what a command says, and gives the reply, if any.
+    fn obey(&mut self, command: Command) -> Option<Reply>
         ensures { (self.new, result) ≡ obeyed self.old command }
     {
-        match (self.phase, command) {
-            (phase, Command::StatusRequest) => Reply::Status(phase),
-            (Escrow(_, bill), Command::Stack) => {
-                self.phase = Stacking(Number, bill);
-                Reply::Acknowledgement(Number)
-            }
-            (Escrow(..), Command::Return) => {
-                self.phase = Returning(Number);
-                Reply::Acknowledgement(Number)
-            }
-            (Vend(_, bill) | Stacked(_, bill) | Up42(_, bill) | Storing(_, bill), Command::Reset) =>
-                {
-                    self.phase = Storing(Number, bill);
-                    Reply::Acknowledgement(Number)
-                }
-            (_, Command::Reset) => {
-                self.phase = Init(Number);
-                Reply::Acknowledgement(Number)
-            }
-            (Vend(_, bill), Command::Acknowledge) => {
-                self.phase = Stacked(Number, bill);
-                Reply::Silence
-            }
-            (_, Command::Acknowledge) => Reply::Silence,
-            (Idle(_) | Disabled(_) | Init(_) | Storing(..), Command::Configure) => Reply::Echo,
-            (Idle(_) | Disabled(_), Command::Inhibit) => {
-                self.phase = Disabled(Number);
-                self.inhibited = true;
-                Reply::Echo
-            }
-            (Accepting(..) | Escrow(..), Command::Inhibit) => {
-                self.phase = Rejecting(Number, 0x79);
-                self.inhibited = true;
-                Reply::Echo
-            }
-            (_, Command::Inhibit) => {
-                self.inhibited = true;
-                Reply::Echo
-            }
-            (Idle(_) | Disabled(_), Command::Permit) => {
-                self.phase = Idle(Number);
-                self.inhibited = false;
-                Reply::Echo
-            }
-            (_, Command::Permit) => {
-                self.inhibited = false;
-                Reply::Echo
-            }
-            _ => Reply::InvalidCommand(Number),
-        }
+        let (to, reply) = command.cell(self.phase);
+        self.phase = to.unwrap_or(self.phase);
+        self.inhibited = command.bit_after(self.inhibited);
+        reply
     }
 }

@@ -5,6 +5,7 @@ mod answer;
 mod command;
 mod fault;
 mod head;
+mod moves;
 mod phase;
 
 pub use fault::{MoveFault, ReceiveFault};
