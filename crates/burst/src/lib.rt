@@ -8,6 +8,7 @@ ghost use Rattle.burst.specs.Described.{Answered, kind_word, described_burst, de
 
 use hex_text::{Blanked, HexFault};
 use message::{Heard, Message, hear};
+use number::Numbered;
 use status::StatusFault;
 use std::alloc::{AllocError, Global};
 use std::fmt;

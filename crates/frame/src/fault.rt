@@ -1,7 +1,7 @@
 // Why a frame was not read, or not written. The numbers are part of the interface.
-ghost use Rattle.std.specs.Prelude.{◌≡◌};
 ghost use Rattle.frame.specs.Faults.{frame_fault_number, write_fault_number};
 
+use number::Numbered;
 use thiserror::Error;
 
 #[derive(Clone, Copy, Debug, PartialEq, Eq, Error)]
@@ -18,11 +18,11 @@ pub enum FrameFault {
     CheckDiffers = 5,
 }
 
-impl FrameFault {
-    pub fn number(self) -> u8
-        ensures { result ≡ frame_fault_number self }
-    {
-        self as u8
+impl Numbered for FrameFault {
+    ghost number_of = { frame_fault_number };
+
+    fn number(&self) -> u8 {
+        *self as u8
     }
 }
 
@@ -34,10 +34,10 @@ pub enum WriteFault {
     BufferTooShort = 7,
 }
 
-impl WriteFault {
-    pub fn number(self) -> u8
-        ensures { result ≡ write_fault_number self }
-    {
-        self as u8
+impl Numbered for WriteFault {
+    ghost number_of = { write_fault_number };
+
+    fn number(&self) -> u8 {
+        *self as u8
     }
 }

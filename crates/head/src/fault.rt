@@ -2,9 +2,9 @@
 //
 // Each call has a fault of its own, also where that has one case: so the type of its answer says which refusals
 // it can give.
-ghost use Rattle.std.specs.Prelude.{◌≡◌};
 ghost use Rattle.head.specs.Faults.{move_fault_number, receive_fault_number};
 
+use number::Numbered;
 use thiserror::Error;
 
 #[derive(Clone, Copy, Debug, PartialEq, Eq, Error)]
@@ -13,11 +13,11 @@ pub enum MoveFault {
     NotListed = 20,
 }
 
-impl MoveFault {
-    pub fn number(self) -> u8
-        ensures { result ≡ move_fault_number self }
-    {
-        self as u8
+impl Numbered for MoveFault {
+    ghost number_of = { move_fault_number };
+
+    fn number(&self) -> u8 {
+        *self as u8
     }
 }
 
@@ -27,10 +27,10 @@ pub enum ReceiveFault {
     BufferTooShort = 7,
 }
 
-impl ReceiveFault {
-    pub fn number(self) -> u8
-        ensures { result ≡ receive_fault_number self }
-    {
-        self as u8
+impl Numbered for ReceiveFault {
+    ghost number_of = { receive_fault_number };
+
+    fn number(&self) -> u8 {
+        *self as u8
     }
 }

@@ -5,7 +5,7 @@ use head::Phase::{
     Storing, Up40, Up41, Up42, Vend,
 };
 use head::{ErrorCode, Head, Phase, ReceiveFault};
-use number::Number;
+use number::{Number, Numbered};
 use std::process::Abort;
 use std::test::Fail;
 

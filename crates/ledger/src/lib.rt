@@ -8,7 +8,7 @@ ghost use Rattle.ledger.specs.Held.{heads, Heads, nothing, Within, Amount};
 ghost use Rattle.ledger.specs.Starts.{start_fault_number};
 ghost use Rattle.ledger.specs.Answers.{fault_number, question, promise_check, promise_answer, end_answer, promised_after, settled_after, given_back_after};
 
-use number::Number;
+use number::{Number, Numbered};
 use thiserror::Error;
 
 mod head_record;
@@ -41,12 +41,12 @@ pub enum LedgerFault {
     NonePromised(Number<25>),
 }
 
-impl LedgerFault {
-    pub fn number(self) -> u8
-        ensures { result ≡ fault_number self }
-    {
+impl Numbered for LedgerFault {
+    ghost number_of = { fault_number };
+
+    fn number(&self) -> u8 {
         // Each number has a type of its own, so that no one pattern takes them all.
-        match self {
+        match *self {
             LedgerFault::NoSuchHead(number) => number.value(),
             LedgerFault::BadAmount(number) => number.value(),
             LedgerFault::AlreadyPromised(number) => number.value(),
@@ -63,11 +63,11 @@ pub enum StartFault {
     AboveMost = 26,
 }
 
-impl StartFault {
-    pub fn number(self) -> u8
-        ensures { result ≡ start_fault_number self }
-    {
-        self as u8
+impl Numbered for StartFault {
+    ghost number_of = { start_fault_number };
+
+    fn number(&self) -> u8 {
+        *self as u8
     }
 }
 

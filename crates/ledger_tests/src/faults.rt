@@ -1,7 +1,7 @@
 // Each fault tells its own number, and prints it with a sentence.
 use ledger::{LedgerFault, StartFault};
 use ledger_script::{ALREADY_PROMISED, BAD_AMOUNT, NO_SUCH_HEAD, NONE_PROMISED};
-use number::Number;
+use number::{Number, Numbered};
 use std::test::Fail;
 
 #[test]

@@ -6,6 +6,7 @@ ghost use Rattle.std.specs.Option.{option_to_list};
 ghost use Rattle.status.specs.Statuses.{status_answer, status_byte, status_data, status_fault_number, told};
 
 use codes::{BareCode, DetailedCode, StatusCode};
+use number::Numbered;
 use thiserror::Error;
 
 // A status with the data that its code has: no value has a code, or a number of data bytes, outside the table.
@@ -48,11 +49,11 @@ pub enum StatusFault {
     Complaint = 10,
 }
 
-impl StatusFault {
-    pub fn number(self) -> u8
-        ensures { result ≡ status_fault_number self }
-    {
-        self as u8
+impl Numbered for StatusFault {
+    ghost number_of = { status_fault_number };
+
+    fn number(&self) -> u8 {
+        *self as u8
     }
 }
 

@@ -1,7 +1,7 @@
 // Why the turn table refused a call, each case with its number.
-ghost use Rattle.std.specs.Prelude.{◌≡◌};
 ghost use Rattle.turns.specs.Faults.{admission_number, dismissal_number};
 
+use number::Numbered;
 use thiserror::Error;
 
 // Why a head was not admitted; the first cause that applies, from the top.
@@ -16,11 +16,11 @@ pub enum AdmissionFault {
     Outnumbered = 15,
 }
 
-impl AdmissionFault {
-    pub fn number(self) -> u8
-        ensures { result ≡ admission_number self }
-    {
-        self as u8
+impl Numbered for AdmissionFault {
+    ghost number_of = { admission_number };
+
+    fn number(&self) -> u8 {
+        *self as u8
     }
 }
 
@@ -33,10 +33,10 @@ pub enum DismissalFault {
     NotAdmitted = 16,
 }
 
-impl DismissalFault {
-    pub fn number(self) -> u8
-        ensures { result ≡ dismissal_number self }
-    {
-        self as u8
+impl Numbered for DismissalFault {
+    ghost number_of = { dismissal_number };
+
+    fn number(&self) -> u8 {
+        *self as u8
     }
 }

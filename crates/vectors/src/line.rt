@@ -1,6 +1,7 @@
 // The frames and the register trace that the text of ID-003 prints, and each refusal of the line at its edge.
 use frame::{FrameFault, WriteFault};
 use message::hear;
+use number::Numbered;
 use std::test::Fail;
 
 const POLL: [u8; 5] = [0xfc, 0x05, 0x11, 0x27, 0x56];
