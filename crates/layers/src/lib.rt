@@ -2,7 +2,7 @@
 // over a ledger is a ledger again, so layers pile up in any order.
 //
 // Each layer hands on by itself what it does not change, which is two questions in both: a trait for what layers have
-// in common would have to say of every call what a layer adds to it, and would be longer than both.
+// in common would have to say of every call what a layer adds to it.
 #![tactic(auto)]
 
 mod depth;

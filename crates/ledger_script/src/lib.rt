@@ -28,7 +28,7 @@ pub fn run<L: Ledger>(ledger: &mut L, steps: &[Step]) -> Result<(), usize>
     ensures answers { MatchResult result (λ _. AnsweredAsTold L.Ledger.held L.Ledger.depth ledger.old steps.now ledger.new) (λ place. FirstAnsweredOtherwise L.Ledger.held L.Ledger.depth ledger.old steps.now place ledger.new) }
     ensures kept { L.Ledger.keeps ledger.old ledger.new }
 {
-    // A chain's closure would change the ledger that it captures, and then nothing is known of what it gave.
+    // No chain: its closure would change the ledger that it captures, and nothing is known of the ledger after that.
     for (place, step) in steps.iter().enumerate() {
         if make_call(ledger, step.0, step.1) != step.2 {
             return Err(place);
