@@ -24,7 +24,8 @@ impl Numbered for AdmissionFault {
     }
 }
 
-// Why a head was not dismissed; the first cause that applies, from the top.
+// Why a head was not dismissed; the first cause that applies, from the top. It is an enum of its own, though it shares 12
+// with the one above, so that neither call can answer with a cause that is only the other's.
 #[derive(Clone, Copy, Debug, PartialEq, Eq, Error)]
 pub enum DismissalFault {
     #[error("{}: head number over 13", self.number())]
