@@ -36,7 +36,8 @@ fn check_fields(bytes: &[u8], bills: usize) -> Result<(), DrawerFault>
     covered
 }
 
-// Whether bytes are a drawer with this number of fields for bills in each section.
+// Whether bytes are a drawer with this number of fields for bills in each section. The two go as arguments, and not
+// as a struct of both: a drawer, its maker and whoever makes calls on one hold the bytes as `&mut`.
 pub fn check(bytes: &[u8], bills: u16) -> Result<(), DrawerFault>
     ensures answer { result ≡ checked bytes.now bills }
     ensures judged { Judged bytes.now bills result }

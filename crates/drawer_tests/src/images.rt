@@ -46,8 +46,8 @@ pub(crate) fn image(fields: &[Field]) -> [u8; LENGTH] {
     let mut bytes = [0; LENGTH];
     let _ = write_fresh(&mut bytes, BILLS);
     for Field(place, tag, [low, high], [a, b, c, d]) in fields {
-        if let Some(field) = bytes.get_mut(*place..*place + 7) {
-            field.copy_from_slice(&[*tag, *low, *high, *a, *b, *c, *d]);
+        if *place <= LENGTH - 7 {
+            bytes[*place..*place + 7].copy_from_slice(&[*tag, *low, *high, *a, *b, *c, *d]);
         }
     }
     bytes
