@@ -13,7 +13,7 @@ use std::alloc::{AllocError, Global};
 
 // What the section of a head holds, as a line.
 pub fn head_line(image: &[u8], bills: u16, head: u8) -> HeadLine
-    ensures { result ≡ record { head = head; promised = unwrap_or (bytes_held image.now bills head).promised 0; credited = (bytes_held image.now bills head).credited; places = (bytes_held image.now bills head).places } }
+    ensures { result ≡ record { head = head; promised = (bytes_held image.now bills head).promised; credited = (bytes_held image.now bills head).credited; places = (bytes_held image.now bills head).places } }
 {
     let section = section_of(image, bills, head);
     HeadLine {

@@ -7,12 +7,8 @@ pub fn put_amount(bytes: &mut [u8], field: usize, amount: u32)
     requires { 7 * field + 7 ≤ length bytes.old }
     ensures { bytes.new ≡ put_amount bytes.old field amount }
 {
-    let at = 7 * field;
-    let [a, b, c, d] = amount.to_le_bytes();
-    bytes[at + 3] = a;
-    bytes[at + 4] = b;
-    bytes[at + 5] = c;
-    bytes[at + 6] = d;
+    let at = 7 * field + 3;
+    bytes[at..at + 4].copy_from_slice(&amount.to_le_bytes());
 }
 
 // Makes a free field a settled bill. Its length is 4 already.

@@ -45,16 +45,9 @@ pub(crate) fn settled(place: usize, amount: [u8; 4]) -> Field {
 pub(crate) fn image(fields: &[Field]) -> [u8; LENGTH] {
     let mut bytes = [0; LENGTH];
     let _ = write_fresh(&mut bytes, BILLS);
-    for field in fields {
-        let Field(place, tag, length, amount) = *field;
-        if place <= LENGTH - 7 {
-            bytes[place] = tag;
-            bytes[place + 1] = length[0];
-            bytes[place + 2] = length[1];
-            bytes[place + 3] = amount[0];
-            bytes[place + 4] = amount[1];
-            bytes[place + 5] = amount[2];
-            bytes[place + 6] = amount[3];
+    for Field(place, tag, [low, high], [a, b, c, d]) in fields {
+        if *place <= LENGTH - 7 {
+            bytes[*place..*place + 7].copy_from_slice(&[*tag, *low, *high, *a, *b, *c, *d]);
         }
     }
     bytes
