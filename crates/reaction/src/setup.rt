@@ -18,7 +18,7 @@ pub struct Setup {
 fn is_echo<'a>(setting: &Setting, message: Message<'a>) -> bool
     ensures { result ≡ same_content (setting_content setting.now) (message_content message.entry) }
 {
-    setting.command() == message.command() && setting.data() == message.data()
+    (setting.command(), setting.data()) == (message.command(), message.data())
 }
 
 impl Setup {
