@@ -8,7 +8,7 @@ use ledger::{Ledger, LedgerFault};
 use ledger_calls::{Call, make_call};
 
 // At most two calls, in this order: the end of a promise that stands, and the promise of a bill in escrow.
-#[derive(Clone, Copy)]
+#[derive(Clone, Copy, Debug, PartialEq, Eq)]
 pub struct Calls {
     pub ending: Option<Call>,
     pub promise: Option<u32>,

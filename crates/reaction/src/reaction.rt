@@ -6,7 +6,7 @@ use crate::fault::HeadFault;
 use ledger_calls::Call;
 
 // What a status is answered with.
-#[derive(Clone, Copy)]
+#[derive(Clone, Copy, Debug, PartialEq, Eq)]
 pub enum Reply {
     Nothing,
     // The first unconfirmed setting, if any.
@@ -20,7 +20,7 @@ pub enum Reply {
     Reset,
 }
 
-#[derive(Clone, Copy)]
+#[derive(Clone, Copy, Debug, PartialEq, Eq)]
 pub struct Reaction {
     // What a promise that stands comes to.
     pub ending: Option<Call>,

@@ -10,7 +10,7 @@ use number::Number;
 use sheet::Setting;
 
 // What the hub sends after it has heard a head, each command with its byte.
-#[derive(Clone, Copy)]
+#[derive(Clone, Copy, Debug, PartialEq, Eq)]
 pub enum SecondFrame {
     Setting(Setting),
     // STACK-1

@@ -9,7 +9,7 @@ use message::Message;
 use sheet::{Setting, Sheet};
 
 // A head's sheet, and how many of its settings the head has confirmed, in their order.
-#[derive(Clone, Copy)]
+#[derive(Clone, Copy, Debug, PartialEq, Eq)]
 pub struct Setup {
     pub sheet: Sheet,
     pub confirmed: usize,

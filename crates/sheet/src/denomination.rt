@@ -12,7 +12,7 @@ pub struct Pair {
 }
 
 // A mantissa and an exponent: the value is mantissa × 10 to the exponent. Without a mantissa the code is unassigned.
-#[derive(Clone, Copy)]
+#[derive(Clone, Copy, Debug, PartialEq, Eq)]
 pub struct Denomination {
     mantissa: u8,
     exponent: u8,

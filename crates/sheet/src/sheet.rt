@@ -24,7 +24,7 @@ pub struct Draft {
 }
 
 // A sheet that was checked.
-#[derive(Clone, Copy)]
+#[derive(Clone, Copy, Debug, PartialEq, Eq)]
 pub struct Sheet {
     limit: Limit,
     denominations: [Denomination; DENOMINATIONS],
