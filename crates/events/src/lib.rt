@@ -9,7 +9,7 @@ use sheet::Draft;
 pub enum Handed<'a> {
     // What the head in turn answers, and nothing where it does not answer.
     Answer,
-    // Nothing: the answer is lost.
+    // Nothing: the answer is lost. A script has a word for that, and its own bytes are one at least.
     Silence,
     // The script's own bytes.
     Bytes(&'a [u8]),

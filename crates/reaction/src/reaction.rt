@@ -8,6 +8,7 @@ use ledger_calls::Call;
 // What a status is answered with.
 #[derive(Clone, Copy, Debug, PartialEq, Eq)]
 pub enum Reply {
+    // A row of the table like the others: in an Option beside them it would have as many arms.
     Nothing,
     // The first unconfirmed setting, if any.
     NextSetting,

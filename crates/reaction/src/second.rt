@@ -39,6 +39,7 @@ impl Reply {
 }
 
 impl SecondFrame {
+    // An arm for each case, since each code is a type of its own.
     fn command(&self) -> u8
         ensures { result ≡ (frame_message self.now).command }
     {

@@ -19,6 +19,7 @@ pub enum Setting {
 }
 
 impl Setting {
+    // An arm for each case, since each code is a type of its own.
     pub fn command(&self) -> u8
         ensures { result ≡ (setting_content self.now).command }
     {
