@@ -4,6 +4,7 @@ ghost use Rattle.std.specs.Option.{unwrap_or};
 ghost use Rattle.audit_report.specs.Reports.{head_text, refusal_text};
 
 use drawer_image::fault::DrawerFault;
+use number::Numbered;
 use std::fmt;
 
 // What an audit tells of a head.

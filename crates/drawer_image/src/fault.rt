@@ -1,7 +1,6 @@
-ghost use Rattle.std.specs.Prelude.{◌≡◌};
 ghost use Rattle.drawer_image.specs.Numbers.{fault_number};
 
-use number::Number;
+use number::{Number, Numbered};
 use thiserror::Error;
 
 // Why bytes are no drawer, each case with its number.
@@ -18,12 +17,11 @@ pub enum DrawerFault {
     BadField(Number<28>, usize),
 }
 
-impl DrawerFault {
-    // The number of the refusal.
-    pub fn number(self) -> u8
-        ensures { result ≡ fault_number self }
-    {
-        match self {
+impl Numbered for DrawerFault {
+    ghost number_of = { fault_number };
+
+    fn number(&self) -> u8 {
+        match *self {
             DrawerFault::BadCount(number) => number.value(),
             DrawerFault::BadLength(number) => number.value(),
             DrawerFault::BadField(number, _) => number.value(),

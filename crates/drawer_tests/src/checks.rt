@@ -4,7 +4,7 @@ use drawer_fresh::write_fresh;
 use drawer_image::check::check;
 use drawer_image::fault::DrawerFault;
 use drawer_image::section::{Section, section_of};
-use number::Number;
+use number::{Number, Numbered};
 use std::test::Fail;
 
 // Each kind of field that its position does not allow, and its place.

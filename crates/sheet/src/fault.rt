@@ -1,7 +1,7 @@
 // Why a sheet is refused. The number is part of the interface.
-ghost use Rattle.std.specs.Prelude.{◌≡◌};
 ghost use Rattle.sheet.specs.Sheets.{sheet_fault_number};
 
+use number::Numbered;
 use thiserror::Error;
 
 #[derive(Clone, Copy, Debug, PartialEq, Eq, Error)]
@@ -10,10 +10,10 @@ pub enum SheetFault {
     SheetWrong = 14,
 }
 
-impl SheetFault {
-    pub fn number(self) -> u8
-        ensures { result ≡ sheet_fault_number self }
-    {
-        self as u8
+impl Numbered for SheetFault {
+    ghost number_of = { sheet_fault_number };
+
+    fn number(&self) -> u8 {
+        *self as u8
     }
 }
