@@ -8,8 +8,8 @@
 --   is_open slot         whether a slot is open
 --   served_by slot       the head that the open slot is for
 --   setup_of s h         the setup of head h, if it is admitted
---   first_awaited s n    the head whose first report the hub awaits from a pass with the count n
---   second_awaited s n   the same of the second report
+--   first_of slot        the head whose first report a slot awaits, if it awaits one; second_of slot the same of the second
+--   awaited_by of s n    the head whose report the hub awaits from a pass with the count n, where `of` is first_of or second_of
 --   next_count s         the count of the next slot: 1 for the first, modulo 2^64
 --
 -- Assumes nothing.
@@ -56,11 +56,8 @@ second_of Closed = None
 second_of (First h) = None
 second_of (Second h sent) = Some h
 
-abbrev pub first_awaited : HubState → ℕ → Option ℕ
-first_awaited s n = cond (n == s.count) (first_of s.slot) None
-
-abbrev pub second_awaited : HubState → ℕ → Option ℕ
-second_awaited s n = cond (n == s.count) (second_of s.slot) None
+abbrev pub awaited_by : (Slot → Option ℕ) → HubState → ℕ → Option ℕ
+awaited_by of s n = cond (n == s.count) (of s.slot) None
 
 abbrev pub next_count : HubState → ℕ
 next_count s = (s.count + 1) % 2 ^ 64

@@ -2,9 +2,9 @@
 ghost use Rattle.std.specs.Prelude.{◌≡◌, length};
 ghost use Rattle.hub.specs.Heads.{Admits, after_dismissal, dismissal_answer};
 ghost use Rattle.reaction.specs.Calls.{listed};
-ghost use Rattle.hub.specs.Reports.{after_cut, after_first, after_second, buffer_after_first, calls_awaited, cut_check, cut_told, first_check, first_told, ledger_after_cut, ledger_after_first, second_check, second_told, told_first, told_second};
+ghost use Rattle.hub.specs.Reports.{after_cut, after_first, after_second, buffer_after_first, calls_awaited, check, cut_told, first_check, first_told, ledger_after_cut, ledger_after_first, second_told, told_first, told_second};
 ghost use Rattle.hub.specs.Slots.{after_opening, opening_answer, poll_written};
-ghost use Rattle.hub.specs.States.{new_state, restarted, served_by, setup_of, state_of};
+ghost use Rattle.hub.specs.States.{first_of, new_state, restarted, second_of, served_by, setup_of, state_of};
 
 use crate::hearing::{said, status_heard, taken};
 use crate::pass::{FirstPass, Opening, SecondPass};
@@ -84,8 +84,7 @@ impl<L: Ledger> Hub<L> {
         ensures kept { L.Ledger.keeps self.old.ledger self.new.ledger }
         ensures written { buffer.new ≡ buffer_after_first (state_of self.old.state) (L.Ledger.held self.old.ledger) (L.Ledger.depth self.old.ledger) (first_check (state_of self.old.state) pass (length received.now) (length buffer.old)) received.now buffer.old }
     {
-        let count = pass.count;
-        let head = self.state.accept_first(pass, received.len(), buffer.len())?;
+        let (head, pass) = self.state.accept_first(pass, received.len(), buffer.len())?;
         let heard = message::hear(received);
         let status = status_heard(heard);
         let reaction = self.state.reaction(head, status);
@@ -96,7 +95,7 @@ impl<L: Ledger> Hub<L> {
             heard,
             taken: taken(status, verdict),
             length: write_frame(&frame, buffer),
-            pass: SecondPass { count },
+            pass: pass.into_second(),
         })
     }
 
@@ -108,12 +107,13 @@ impl<L: Ledger> Hub<L> {
         received: &[u8],
         calls: usize,
     ) -> Result<usize, CutRefusal>
-        ensures told { result ≡ cut_told (state_of self.old.state) (L.Ledger.held self.old.ledger) (cut_check (state_of self.old.state) pass (length received.now)) received.now calls }
-        ensures after { state_of self.new.state ≡ after_cut (state_of self.old.state) (cut_check (state_of self.old.state) pass (length received.now)) }
-        ensures ledger { L.Ledger.held self.new.ledger ≡ ledger_after_cut (state_of self.old.state) (L.Ledger.held self.old.ledger) (cut_check (state_of self.old.state) pass (length received.now)) received.now calls }
+        ensures told { result ≡ cut_told (state_of self.old.state) (L.Ledger.held self.old.ledger) (check first_of (state_of self.old.state) pass (length received.now)) received.now calls }
+        ensures after { state_of self.new.state ≡ after_cut (state_of self.old.state) (check first_of (state_of self.old.state) pass (length received.now)) }
+        ensures ledger { L.Ledger.held self.new.ledger ≡ ledger_after_cut (state_of self.old.state) (L.Ledger.held self.old.ledger) (check first_of (state_of self.old.state) pass (length received.now)) received.now calls }
         ensures kept { L.Ledger.keeps self.old.ledger self.new.ledger }
     {
-        let head = self.state.accept_cut(pass, received.len())?;
+        let (head, pass) = self.state.accept(pass, received.len())?;
+        pass.spend();
         let reaction = self
             .state
             .reaction(head, status_heard(message::hear(received)));
@@ -146,11 +146,12 @@ impl<L: Ledger> Hub<L> {
         pass: SecondPass,
         received: &'a [u8],
     ) -> Result<Result<Heard<'a>, NothingHeard>, SecondRefusal>
-        ensures told { told_second result ≡ second_told (second_check (state_of self.old.state) pass (length received.now)) received.now }
-        ensures after { state_of self.new.state ≡ after_second (state_of self.old.state) (second_check (state_of self.old.state) pass (length received.now)) received.now }
+        ensures told { told_second result ≡ second_told (check second_of (state_of self.old.state) pass (length received.now)) received.now }
+        ensures after { state_of self.new.state ≡ after_second (state_of self.old.state) (check second_of (state_of self.old.state) pass (length received.now)) received.now }
         ensures ledger { self.new.ledger ≡ self.old.ledger }
     {
-        let head = self.state.accept_second(pass, received.len())?;
+        let (head, pass) = self.state.accept(pass, received.len())?;
+        pass.spend();
         let heard = message::hear(received);
         self.state.hear_second(head, said(heard));
         Ok(heard)

@@ -3,7 +3,7 @@ ghost use Rattle.std.specs.Prelude.{◌≡◌, length};
 ghost use Rattle.hub.specs.Slots.{after_opening, opening_answer, poll_written};
 ghost use Rattle.hub.specs.States.{state_of};
 
-use crate::pass::{FirstPass, Opening};
+use crate::pass::{Opening, Pass};
 use crate::refusal::OpeningRefusal;
 use crate::state::{Slot, State};
 
@@ -37,7 +37,7 @@ impl State {
         self.count = self.count.wrapping_add(1);
         Ok(Opening {
             head,
-            pass: FirstPass { count: self.count },
+            pass: Pass::new(self.count),
         })
     }
 }

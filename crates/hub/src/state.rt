@@ -1,6 +1,6 @@
 // What the hub knows of its heads and of the open slot.
 ghost use Rattle.std.specs.Prelude.{◌≡◌};
-ghost use Rattle.hub.specs.States.{first_awaited, is_open, new_state, restarted, second_awaited, served_by, setup_of, state_of};
+ghost use Rattle.hub.specs.States.{is_open, new_state, restarted, served_by, setup_of, state_of};
 
 use ledger::HEADS;
 use reaction::Setup;
@@ -72,26 +72,6 @@ impl State {
         match self.setups.get(head as usize) {
             Some(setup) => *setup,
             None => None,
-        }
-    }
-
-    // The head whose first report is awaited from a pass with this count.
-    pub(crate) fn first_awaited(&self, count: u64) -> Option<u8>
-        ensures { result ≡ first_awaited (state_of self.now) count }
-    {
-        match self.slot {
-            Slot::First(head) if count == self.count => Some(head),
-            _ => None,
-        }
-    }
-
-    // The head whose second report is awaited from a pass with this count.
-    pub(crate) fn second_awaited(&self, count: u64) -> Option<u8>
-        ensures { result ≡ second_awaited (state_of self.now) count }
-    {
-        match self.slot {
-            Slot::Second(head, _) if count == self.count => Some(head),
-            _ => None,
         }
     }
 }
