@@ -25,13 +25,6 @@ pub struct Hub<L> {
     ledger: L,
 }
 
-// The amount that is promised for a head; nothing where there is no such head.
-fn promised<L: Ledger>(ledger: &L, head: u8) -> Option<u32>
-    ensures { result ≡ (L.Ledger.held ledger.now head).promised }
-{
-    ledger.promised(head).unwrap_or(None)
-}
-
 impl<L: Ledger> Hub<L> {
     // A hub with no head.
     pub fn new(ledger: L) -> Hub<L>
@@ -136,7 +129,7 @@ impl<L: Ledger> Hub<L> {
         let reaction = self
             .state
             .reaction(head, status_heard(message::hear(received)));
-        reaction.calls(promised(&self.ledger, head))
+        reaction.calls_now(&self.ledger, head)
     }
 
     // Takes the bytes received after the second frame, and closes the slot. A setting just sent is confirmed if they

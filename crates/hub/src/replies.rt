@@ -53,19 +53,22 @@ fn setup_hearing<'a>(setup: Option<Setup>, sent: bool, said: Option<Message<'a>>
     let Some(mut setup) = setup else {
         return None;
     };
-    setup.hear(sent, said);
+    if sent {
+        setup.hear(said);
+    }
     Some(setup)
 }
 
-// Writes a second frame to the start of a buffer that has room for the longest, and tells its length, 0 for none.
-pub(crate) fn write_frame(frame: &SecondFrame, buffer: &mut [u8]) -> usize
+// Writes a second frame, if there is one, to the start of a buffer that has room for the longest, and tells its length, 0
+// for none.
+pub(crate) fn write_frame(frame: &Option<SecondFrame>, buffer: &mut [u8]) -> usize
     requires { 7 ≤ length buffer.old }
     ensures long { result ≡ length_of (frame_content frame.now) }
     ensures after { buffer.new ≡ (written (frame_content frame.now) buffer.old).0 }
 {
-    match frame.write(buffer) {
-        Ok(length) => length,
-        Err(_) => unreachable(),
+    match frame {
+        Some(frame) => frame.write(buffer).unwrap(),
+        None => 0,
     }
 }
 
@@ -89,26 +92,21 @@ impl State {
         head: u8,
         reaction: &Reaction,
         verdict: Result<(), HeadFault>,
-    ) -> SecondFrame
+    ) -> Option<SecondFrame>
         ensures frame { frame_content result ≡ sent_by (setup_of (state_of self.now) head) reaction.now verdict }
         ensures setting { is_some (sent_setting result) ≡ sends_setting (setup_of (state_of self.now) head) reaction.now }
     {
-        match self.setup(head) {
-            Some(setup) => reaction.reply.second_frame(&setup, verdict),
-            None => SecondFrame::Nothing,
-        }
+        self.setup(head)
+            .and_then(|setup| reaction.reply.second_frame(&setup, verdict))
     }
 
     // Goes on to await the second report, after this frame was sent to the head.
-    pub(crate) fn reply(&mut self, head: u8, reaction: &Reaction, frame: &SecondFrame)
+    pub(crate) fn reply(&mut self, head: u8, reaction: &Reaction, frame: &Option<SecondFrame>)
         ensures { state_of self.new ≡ after_reply (state_of self.old) head reaction.now (is_some (sent_setting frame.now)) }
     {
         let setup = setup_after(self.setup(head), reaction);
         put_setup(&mut self.setups, head, setup);
-        let sent = match frame {
-            SecondFrame::Setting(_) => true,
-            _ => false,
-        };
+        let sent = matches!(frame, Some(SecondFrame::Setting(_)));
         self.slot = Slot::Second(head, sent);
     }
 

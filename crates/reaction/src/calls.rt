@@ -51,13 +51,14 @@ impl Reaction {
             },
         }
     }
-}
 
-// The calls of a report for a head, with what is promised for it now: nothing where there is no such head.
-fn calls_now<L: Ledger>(ledger: &L, head: u8, reaction: &Reaction) -> Calls
-    ensures { result ≡ parts_of reaction.now (L.Ledger.held ledger.now head).promised }
-{
-    reaction.calls(ledger.promised(head).unwrap_or(None))
+    // The calls of a report for a head, with what is promised for it now: nothing where there is no such head.
+    pub fn calls_now<L: Ledger>(&self, ledger: &L, head: u8) -> Calls
+        ensures list { listed result ≡ calls_of self.now (L.Ledger.held ledger.now head).promised }
+        ensures parts { result ≡ parts_of self.now (L.Ledger.held ledger.now head).promised }
+    {
+        self.calls(ledger.promised(head).unwrap_or(None))
+    }
 }
 
 // Makes the calls in order, one at a time, and answers what the promise among them was answered.
@@ -81,7 +82,7 @@ pub fn perform<L: Ledger>(ledger: &mut L, head: u8, reaction: &Reaction) -> Resu
     ensures after { L.Ledger.held ledger.new ≡ called_all (L.Ledger.held ledger.old) head (calls_of reaction.now (L.Ledger.held ledger.old head).promised) }
     ensures kept { L.Ledger.keeps ledger.old ledger.new }
 {
-    let calls = calls_now(ledger, head, reaction);
+    let calls = reaction.calls_now(ledger, head);
     make_all(ledger, head, calls)?;
     match reaction.reply {
         Reply::Return(cause) => Err(cause),
@@ -95,7 +96,7 @@ pub fn perform_some<L: Ledger>(ledger: &mut L, head: u8, reaction: &Reaction, co
     ensures after { L.Ledger.held ledger.new ≡ called_all (L.Ledger.held ledger.old) head (take count (calls_of reaction.now (L.Ledger.held ledger.old head).promised)) }
     ensures kept { L.Ledger.keeps ledger.old ledger.new }
 {
-    let calls = calls_now(ledger, head, reaction).first(count);
+    let calls = reaction.calls_now(ledger, head).first(count);
     let _ = make_all(ledger, head, calls);
     calls.count()
 }

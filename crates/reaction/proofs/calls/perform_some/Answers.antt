@@ -20,7 +20,7 @@ pub returns : goal.returns
 returns g c =
     let t : Heads = g.L.Ledger.held c.args.ledger.now in
     let head = c.args.head in
-    let cut = cut_off c.args.reaction.now (t head).promised c.args.count c.calls_now.result c.first-calls.result c.calls_now.ensures c.first-calls.ensures in
+    let cut = cut_off c.args.reaction.now (t head).promised c.args.count c.calls_now.result c.first-calls.result c.calls_now.ensures.parts c.first-calls.ensures in
     record {
       made = as_many c.count.result c.args.count _ _ c.count.ensures cut;
       after = left_by t _ head _ _ c.make_all.ensures.after cut;
