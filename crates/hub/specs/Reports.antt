@@ -3,10 +3,10 @@
 --   heard_in bs               the message heard in the received bytes bs, if any; said_in r the same of what hearing answered
 --   status_in bs              the status heard: a message that does not read as one counts as nothing heard; status_of m the
 --                             same of a message; status_read r the same of what the code read
---   check of s p n            whether the report with the pass p and n received bytes is accepted, and for which head: else 18
---                             or 19; `of` is first_of for a first report, also one with a power cut inside, and second_of for a
+--   check of s p bs           whether the report with the pass p and the received bytes bs is accepted, and for which head:
+--                             else 18 or 19; `of` is first_of for a first report, also one with a power cut inside, and second_of for a
 --                             second
---   first_check s p n room    the same of a first report with a buffer of this length: 18, 19 or 7
+--   first_check s p bs room   the same of a first report with a buffer of this length: 18, 19 or 7
 --   first_reaction s h bs     the reaction to the received bytes for head h; reaction_in u m the same of its setup u and the
 --                             status m
 --   first_calls s t h bs      the ledger calls of that report, in order, where the ledger holds t
@@ -84,12 +84,12 @@ status_in bs = status_of (heard_in bs)
 
 -- WHICH REPORTS ARE ACCEPTED
 
-abbrev pub handed : {R : Type 0} → Option ℕ → Pass R → ℕ → Result ℕ (ReportRefusal R)
-handed None p n = Err (report.NoSuchSlot its_number)
-handed (Some h) p n = cond (nat_lt 512 n) (Err (report.TooMuchReceived its_number p)) (Ok h)
+abbrev pub handed : {R : Type 0} → Option ℕ → Pass R → List ℕ → Result ℕ (ReportRefusal R)
+handed None p bs = Err (report.NoSuchSlot its_number)
+handed (Some h) p bs = cond (nat_lt 512 (length bs)) (Err (report.TooMuchReceived its_number p)) (Ok h)
 
-abbrev pub check : {R : Type 0} → (Slot → Option ℕ) → HubState → Pass R → ℕ → Result ℕ (ReportRefusal R)
-check of s p n = handed (awaited_by of s p.count) p n
+abbrev pub check : {R : Type 0} → (Slot → Option ℕ) → HubState → Pass R → List ℕ → Result ℕ (ReportRefusal R)
+check of s p bs = handed (awaited_by of s p.count) p bs
 
 -- THE FIRST REPORT
 
@@ -97,8 +97,8 @@ abbrev pub with_room : ℕ → FirstPass → Result ℕ CutRefusal → Result �
 with_room room p (Ok h) = cond (nat_lt room 7) (Err (first.BufferTooShort its_number p)) (Ok h)
 with_room room p (Err e) = Err (first_refusal e)
 
-abbrev pub first_check : HubState → FirstPass → ℕ → ℕ → Result ℕ FirstRefusal
-first_check s p n room = with_room room p (check first_of s p n)
+abbrev pub first_check : HubState → FirstPass → List ℕ → ℕ → Result ℕ FirstRefusal
+first_check s p bs room = with_room room p (check first_of s p bs)
 
 -- nothing is done for a head without a setup, which no open slot is for
 abbrev pub reaction_in : Option Setup → Option Content → Reaction

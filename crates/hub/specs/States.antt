@@ -1,8 +1,7 @@
 -- What the hub knows of its heads and of the open slot, and what is awaited.
 --
---   HubState             the state of a hub, without its ledger: the turn table, the setups of the admitted heads, the slot,
+--   HubState             what clauses see of a hub's state, without its ledger: the turn table, the setups of the admitted heads, the slot,
 --                        and the slot count
---   state_of s           a hub's own state as a HubState
 --   new_state            a new hub
 --   restarted s          the hub after a restart: no head is admitted, no slot is open, the count stays
 --   is_open slot         whether a slot is open
@@ -18,16 +17,12 @@ use Rattle.orders.specs.Tables.{Table, empty_table}
 use Rattle.reaction.specs.declared.setup.Setup.{Setup}
 use Rattle.hub.specs.declared.state.Slot.{Slot}
 use Rattle.hub.specs.declared.state.Slot.TheVariants.{Closed, First, Second}
-use Rattle.hub.specs.declared.state.State.{State}
 
 pub record HubState : Type 0 where
   pub table : Table
   pub setups : List (Option Setup)
   pub slot : Slot
   pub count : ℕ
-
-abbrev pub state_of : State → HubState
-state_of s = record { table = s.turns.heads; setups = s.setups; slot = s.slot; count = s.count }
 
 abbrev pub new_state : HubState
 new_state = record { table = empty_table; setups = replicate 14 None; slot = Closed; count = 0 }

@@ -2,7 +2,7 @@
 ghost use Rattle.std.specs.Prelude.{◌≡◌, IfOk};
 ghost use Rattle.std.specs.Result.{result_map_both};
 ghost use Rattle.hub.specs.Reports.{check, first_check};
-ghost use Rattle.hub.specs.States.{awaited_by, state_of};
+ghost use Rattle.hub.specs.States.{awaited_by};
 
 use crate::pass::{FirstPass, Pass, Report};
 use crate::refusal::{FirstRefusal, ReportRefusal};
@@ -18,7 +18,7 @@ const LONGEST_SECOND_FRAME: usize = 7;
 impl State {
     // The head whose report is awaited from this pass.
     fn awaited<R: Report>(&self, pass: &Pass<R>) -> Option<u8>
-        ensures { result ≡ awaited_by R.awaited (state_of self.now) pass.now.count }
+        ensures { result ≡ awaited_by R.awaited self.now pass.now.count }
     {
         if pass.count() == self.count {
             R::awaited(self.slot)
@@ -31,16 +31,16 @@ impl State {
     pub(crate) fn accept<R: Report>(
         &self,
         pass: Pass<R>,
-        received: usize,
+        received: &[u8],
     ) -> Result<(u8, Pass<R>), ReportRefusal<R>>
-        ensures answer { result_map_both (λ accepted. accepted.0) (λ refusal. refusal) result ≡ check R.awaited (state_of self.now) pass received }
+        ensures answer { result_map_both (λ accepted. accepted.0) (λ refusal. refusal) result ≡ check R.awaited self.now pass received.now }
         ensures pass { IfOk result (λ accepted. accepted.1 ≡ pass) }
     {
         let Some(head) = self.awaited(&pass) else {
             pass.spend();
             return Err(ReportRefusal::NoSuchSlot(Number));
         };
-        if received > MOST_RECEIVED {
+        if received.len() > MOST_RECEIVED {
             return Err(ReportRefusal::TooMuchReceived(Number, pass));
         }
         Ok((head, pass))
@@ -50,10 +50,10 @@ impl State {
     pub(crate) fn accept_first(
         &self,
         pass: FirstPass,
-        received: usize,
+        received: &[u8],
         room: usize,
     ) -> Result<(u8, FirstPass), FirstRefusal>
-        ensures answer { result_map_both (λ accepted. accepted.0) (λ refusal. refusal) result ≡ first_check (state_of self.now) pass received room }
+        ensures answer { result_map_both (λ accepted. accepted.0) (λ refusal. refusal) result ≡ first_check self.now pass received.now room }
         ensures pass { IfOk result (λ accepted. accepted.1 ≡ pass) }
     {
         let (head, pass) = self.accept(pass, received)?;

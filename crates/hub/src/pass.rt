@@ -55,7 +55,7 @@ impl Report for Second {
 
     fn awaited(slot: Slot) -> Option<u8> {
         match slot {
-            Slot::Second(head, _) => Some(head),
+            Slot::Second { head, .. } => Some(head),
             _ => None,
         }
     }

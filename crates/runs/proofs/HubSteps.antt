@@ -349,9 +349,9 @@ opening_keeps w wish room (Ok o) is kept =
     (marked_kept w.hub.table w.memory.marks _ (marks_of kept) refl (sym slot))
 opening_keeps w wish room (Err e) is kept = kept
 
-first_keeps : (w : World) (p : FirstPass) (bs : List ℕ) (room : ℕ) (r : Result ℕ FirstRefusal) → first_check w.hub p (length bs) room ≡ r → HubKept w → HubKept (reported_world w bs r)
+first_keeps : (w : World) (p : FirstPass) (bs : List ℕ) (room : ℕ) (r : Result ℕ FirstRefusal) → first_check w.hub p bs room ≡ r → HubKept w → HubKept (reported_world w bs r)
 first_keeps w p bs room (Ok h) is kept =
-    let own = first_for w.hub p (length bs) room h is in
+    let own = first_for w.hub p bs room h is in
     let reaction = first_reaction w.hub h bs in
     both_kept
     (subst (HeadsKept (after_first w.hub (Ok h) bs)) (sym (heard_sheets _ h (status_in bs)))
@@ -361,11 +361,11 @@ first_keeps w p bs room (Ok h) is kept =
     (subst (MarksKept w.hub.table) (sym (heard_marks _ h (status_in bs))) (marks_of kept))
 first_keeps w p bs room (Err e) is kept = kept
 
-second_keeps : (w : World) (p : SecondPass) (bs : List ℕ) (r : Result ℕ SecondRefusal) → check second_of w.hub p (length bs) ≡ r → HubKept w → HubKept (ended_world w bs r)
+second_keeps : (w : World) (p : SecondPass) (bs : List ℕ) (r : Result ℕ SecondRefusal) → check second_of w.hub p bs ≡ r → HubKept w → HubKept (ended_world w bs r)
 second_keeps w p bs (Ok h) is kept =
     both_kept
     (reported_kept w.hub w.memory.sheets h (λ u. setup_hearing (setting_if (sent_in w.hub.slot) u) (heard_in bs) u) Closed (heads_of kept)
-    (second_for w.hub p (length bs) h is)
+    (second_for w.hub p bs h is)
     (λ u. hearing_sheet (setting_if (sent_in w.hub.slot) u) (heard_in bs) u)
     (λ k e. not_some _ e))
     (marks_of kept)
@@ -384,9 +384,9 @@ step_keeps : (w : World) {e : Event} {v : World} → Step w e v → HubKept w �
 step_keeps w (admits n d checked by same) kept = admission_keeps w n d checked by kept
 step_keeps w (dismisses n) kept = dismissal_keeps w n kept
 step_keeps w (opens wish room) kept = opening_keeps w wish room (opening_answer w.hub wish room) refl kept
-step_keeps w (reports p bs room fair) kept = first_keeps w p bs room (first_check w.hub p (length bs) room) refl kept
-step_keeps w (ends p bs) kept = second_keeps w p bs (check second_of w.hub p (length bs)) refl kept
-step_keeps w (cuts p bs n fair) kept = cut_keeps w bs n (check first_of w.hub p (length bs)) kept
+step_keeps w (reports p bs room fair) kept = first_keeps w p bs room (first_check w.hub p bs room) refl kept
+step_keeps w (ends p bs) kept = second_keeps w p bs (check second_of w.hub p bs) refl kept
+step_keeps w (cuts p bs n fair) kept = cut_keeps w bs n (check first_of w.hub p bs) kept
 step_keeps w restarts kept = restart_keeps w kept
 step_keeps w (poll_arrives h line served) kept = both_kept (heads_of kept) (marks_of kept)
 step_keeps w (second_arrives h m line served) kept = both_kept (heads_of kept) (marks_of kept)

@@ -1,5 +1,5 @@
 -- For which head a report is, what it hears, and when a slot is closed. Assumes nothing.
-use Rattle.std.proofs.Common.{◌≡◌, ℕ, Bool, true, false, cond, eqb, ltb, ◌⊎◌, List, Some, None, Ok, Err, Option, Result, sym, refl, ap, ◌∙◌, inl, inr}
+use Rattle.std.proofs.Common.{◌≡◌, ℕ, Bool, true, false, cond, eqb, ltb, ◌⊎◌, List, length, Some, None, Ok, Err, Option, Result, sym, refl, ap, ◌∙◌, inl, inr}
 use Rattle.std.proofs.lemmas.Bool.{false≢true}
 use Rattle.sheet.specs.declared.fault.SheetFault.{SheetFault}
 use Rattle.sheet.specs.declared.sheet.Sheet.{Sheet}
@@ -41,21 +41,21 @@ awaited_serves {of} serves s n h = go (eqb n s.count)
     go true e = serves s.slot h e
     go false e = not_some h e
 
-handed_for : {R : Type 0} (o : Option ℕ) (p : Pass R) (n h : ℕ) → handed o p n ≡ Ok h → o ≡ Some h
-handed_for None p n h e = err_not_ok _ h e
-handed_for (Some g) p n h e = let taken = (passed (ltb 512 n) _ _ h e).1 in cc
+handed_for : {R : Type 0} (o : Option ℕ) (p : Pass R) (bs : List ℕ) (h : ℕ) → handed o p bs ≡ Ok h → o ≡ Some h
+handed_for None p bs h e = err_not_ok _ h e
+handed_for (Some g) p bs h e = let taken = (passed (ltb 512 (length bs)) _ _ h e).1 in cc
 
-report_for : {R : Type 0} {of : Slot → Option ℕ} → Serves of → (s : HubState) (p : Pass R) (n h : ℕ) → check of s p n ≡ Ok h → served_by s.slot ≡ Some h
-report_for {of = of} serves s p n h e = awaited_serves serves s p.count h (handed_for (awaited_by of s p.count) p n h e)
+report_for : {R : Type 0} {of : Slot → Option ℕ} → Serves of → (s : HubState) (p : Pass R) (bs : List ℕ) (h : ℕ) → check of s p bs ≡ Ok h → served_by s.slot ≡ Some h
+report_for {of = of} serves s p bs h e = awaited_serves serves s p.count h (handed_for (awaited_by of s p.count) p bs h e)
 
-pub cut_for : (s : HubState) (p : FirstPass) (n h : ℕ) → check first_of s p n ≡ Ok h → served_by s.slot ≡ Some h
+pub cut_for : (s : HubState) (p : FirstPass) (bs : List ℕ) (h : ℕ) → check first_of s p bs ≡ Ok h → served_by s.slot ≡ Some h
 cut_for = report_for first_serves
 
-pub second_for : (s : HubState) (p : SecondPass) (n h : ℕ) → check second_of s p n ≡ Ok h → served_by s.slot ≡ Some h
+pub second_for : (s : HubState) (p : SecondPass) (bs : List ℕ) (h : ℕ) → check second_of s p bs ≡ Ok h → served_by s.slot ≡ Some h
 second_for = report_for second_serves
 
-pub first_for : (s : HubState) (p : FirstPass) (n room h : ℕ) → first_check s p n room ≡ Ok h → served_by s.slot ≡ Some h
-first_for s p n room h e = cut_for s p n h (in_room (check first_of s p n) e)
+pub first_for : (s : HubState) (p : FirstPass) (bs : List ℕ) (room h : ℕ) → first_check s p bs room ≡ Ok h → served_by s.slot ≡ Some h
+first_for s p bs room h e = cut_for s p bs h (in_room (check first_of s p bs) e)
   where
     in_room : (r : Result ℕ CutRefusal) → with_room room p r ≡ Ok h → r ≡ Ok h
     in_room (Ok g) e = let fits = (passed (ltb room 7) _ _ h e).1 in cc

@@ -13,7 +13,7 @@
 -- Hub, ledger and heads change by the definitions that the contracts of their calls cite. A power cut inside a first report
 -- is one step with the restart that follows it; a cut elsewhere is the call done, or not begun, and a restart. What lies
 -- between two ledger calls of a report is what a cut there leaves. Assumes nothing.
-use Rattle.std.specs.Prelude.{◌≡◌, ℕ, suc, ◌<◌, Bool, cond, ◌⊎◌, List, [], ◌∷◌, ◌++◌, length, take, is_ok, Some, None, Ok, Err, Option, Result, ◌==◌, ◌≢◌}
+use Rattle.std.specs.Prelude.{◌≡◌, ℕ, suc, ◌<◌, Bool, cond, ◌⊎◌, List, [], ◌∷◌, ◌++◌, take, is_ok, Some, None, Ok, Err, Option, Result, ◌==◌, ◌≢◌}
 use Rattle.frame.specs.Frames.{Content}
 use Rattle.turns.specs.Runs.{admit, dismiss, dismiss_all, serve}
 use Rattle.turns.specs.Runs as turns
@@ -267,12 +267,12 @@ pub data Step (w : World) : Event → World → Type 0 where
   opens : (wish room : ℕ) → Step w (opening wish room) (opened_world w wish (opening_answer w.hub wish room))
   -- what a refused report is handed is free, and so is what second reports are
   reports : (p : FirstPass) (bs : List ℕ) (room : ℕ) →
-      ((h : ℕ) → first_check w.hub p (length bs) room ≡ Ok h → FairlyHeard w.line bs) →
-      Step w (first_report p bs room) (reported_world w bs (first_check w.hub p (length bs) room))
-  ends : (p : SecondPass) (bs : List ℕ) → Step w (second_report p bs) (ended_world w bs (check second_of w.hub p (length bs)))
+      ((h : ℕ) → first_check w.hub p bs room ≡ Ok h → FairlyHeard w.line bs) →
+      Step w (first_report p bs room) (reported_world w bs (first_check w.hub p bs room))
+  ends : (p : SecondPass) (bs : List ℕ) → Step w (second_report p bs) (ended_world w bs (check second_of w.hub p bs))
   cuts : (p : FirstPass) (bs : List ℕ) (n : ℕ) →
-      ((h : ℕ) → check first_of w.hub p (length bs) ≡ Ok h → FairlyHeard w.line bs) →
-      Step w (cut p bs n) (cut_world w bs n (check first_of w.hub p (length bs)))
+      ((h : ℕ) → check first_of w.hub p bs ≡ Ok h → FairlyHeard w.line bs) →
+      Step w (cut p bs n) (cut_world w bs n (check first_of w.hub p bs))
   restarts : Step w restart (restarted_world w)
   -- A frame reaches its head once, as sent, and before its own report or the restart in its place; or never.
   poll_arrives : (h : ℕ) → w.line ≡ poll → served_by w.hub.slot ≡ Some h → Step w arrival (answered_world w h)
