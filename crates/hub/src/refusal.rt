@@ -5,7 +5,7 @@ ghost use Rattle.hub.specs.Heads.{admission_refusal, dismissal_refusal, sheet_re
 ghost use Rattle.hub.specs.Refusals.{admission_number, dismissal_number, first_number, first_refusal, opening_number, report_number};
 
 use crate::pass::{First, FirstPass, Pass, Report, Second};
-use number::Number;
+use number::{Number, Numbered};
 use sheet::SheetFault;
 use std::fmt;
 use thiserror::Error;
@@ -26,11 +26,11 @@ pub enum AdmissionRefusal {
     Outnumbered = 15,
 }
 
-impl AdmissionRefusal {
-    pub fn number(self) -> u8
-        ensures { result ≡ admission_number self }
-    {
-        self as u8
+impl Numbered for AdmissionRefusal {
+    ghost number_of = { admission_number };
+
+    fn number(&self) -> u8 {
+        *self as u8
     }
 }
 
@@ -66,11 +66,11 @@ pub enum DismissalRefusal {
     NotAdmitted = 16,
 }
 
-impl DismissalRefusal {
-    pub fn number(self) -> u8
-        ensures { result ≡ dismissal_number self }
-    {
-        self as u8
+impl Numbered for DismissalRefusal {
+    ghost number_of = { dismissal_number };
+
+    fn number(&self) -> u8 {
+        *self as u8
     }
 }
 
@@ -96,11 +96,11 @@ pub enum OpeningRefusal {
     BufferTooShort = 7,
 }
 
-impl OpeningRefusal {
-    pub fn number(self) -> u8
-        ensures { result ≡ opening_number self }
-    {
-        self as u8
+impl Numbered for OpeningRefusal {
+    ghost number_of = { opening_number };
+
+    fn number(&self) -> u8 {
+        *self as u8
     }
 }
 
@@ -118,10 +118,10 @@ pub type SecondRefusal = ReportRefusal<Second>;
 
 pub type CutRefusal = ReportRefusal<First>;
 
-impl<R: Report> ReportRefusal<R> {
-    pub fn number(&self) -> u8
-        ensures { result ≡ report_number self.now }
-    {
+impl<R: Report> Numbered for ReportRefusal<R> {
+    ghost number_of = { report_number };
+
+    fn number(&self) -> u8 {
         match self {
             ReportRefusal::NoSuchSlot(number) => number.value(),
             ReportRefusal::TooMuchReceived(number, _) => number.value(),
@@ -156,10 +156,10 @@ pub enum FirstRefusal {
     BufferTooShort(Number<7>, FirstPass),
 }
 
-impl FirstRefusal {
-    pub fn number(&self) -> u8
-        ensures { result ≡ first_number self.now }
-    {
+impl Numbered for FirstRefusal {
+    ghost number_of = { first_number };
+
+    fn number(&self) -> u8 {
         match self {
             FirstRefusal::NoSuchSlot(number) => number.value(),
             FirstRefusal::TooMuchReceived(number, _) => number.value(),
