@@ -21,5 +21,9 @@ fn step(register: u16, byte: u8) -> u16
 pub fn check(bytes: &[u8]) -> u16
     ensures { result ≡ check_of bytes.now }
 {
-    bytes.iter().fold(0, |register, byte| step(register, *byte))
+    let mut register = 0;
+    for byte in bytes {
+        register = step(register, *byte);
+    }
+    register
 }

@@ -1,13 +1,9 @@
 // What a head is told to do, and how it replies.
 ghost use Rattle.std.specs.Prelude.{◌≡◌};
 ghost use Rattle.frame.specs.Frames.{content};
-ghost use Rattle.head.specs.Commands.{command_of, cell, bit_after, done, echo_to};
+ghost use Rattle.head.specs.Commands.{command_of};
 
 use crate::phase::Phase;
-use crate::phase::Phase::{
-    Accepting, Disabled, Escrow, Idle, Init, Rejecting, Returning, Stacked, Stacking, Storing,
-    Up42, Vend,
-};
 use number::Number;
 
 // A command as a head takes it, by the command byte and the data of a message.
@@ -60,62 +56,4 @@ pub(crate) enum Reply {
     InvalidCommand(Number<0x4b>),
     // what was heard, as it was heard
     Echo,
-}
-
-// A cell of the table: the phase that the head goes to, none where it stays in its own, and its reply, if any.
-type Cell = (Option<Phase>, Option<Reply>);
-
-// 4BH, and nothing changes
-const NO: Cell = (None, Some(Reply::InvalidCommand(Number)));
-
-// the same message
-const ECHO: Cell = (None, Some(Reply::Echo));
-
-// 50H
-fn done(to: Phase) -> Cell
-    ensures { result ≡ done to }
-{
-    (Some(to), Some(Reply::Acknowledgement(Number)))
-}
-
-fn echo_to(to: Phase) -> Cell
-    ensures { result ≡ echo_to to }
-{
-    (Some(to), Some(Reply::Echo))
-}
-
-impl Command {
-    // What a head in a phase does on this command.
-    pub(crate) fn cell(self, phase: Phase) -> Cell
-        ensures { result ≡ cell phase self }
-    {
-        match (self, phase) {
-            (Self::StatusRequest, _) => (None, Some(Reply::Status(phase))),
-            (Self::Stack, Escrow(_, bill)) => done(Stacking(Number, bill)),
-            (Self::Return, Escrow(..)) => done(Returning(Number)),
-            (Self::Reset, Vend(_, bill) | Stacked(_, bill) | Storing(_, bill) | Up42(_, bill)) => {
-                done(Storing(Number, bill))
-            }
-            (Self::Reset, _) => done(Init(Number)),
-            (Self::Acknowledge, Vend(_, bill)) => (Some(Stacked(Number, bill)), None),
-            (Self::Acknowledge, _) => (None, None),
-            (Self::Configure, Idle(_) | Disabled(_) | Init(_) | Storing(..)) => ECHO,
-            (Self::Inhibit, Idle(_)) => echo_to(Disabled(Number)),
-            (Self::Inhibit, Accepting(..) | Escrow(..)) => echo_to(Rejecting(Number, 0x79)),
-            (Self::Permit, Disabled(_)) => echo_to(Idle(Number)),
-            (Self::Inhibit | Self::Permit, _) => ECHO,
-            (Self::Stack | Self::Return | Self::Configure | Self::Unknown, _) => NO,
-        }
-    }
-
-    // The inhibit bit after this command, which C3H sets.
-    pub(crate) fn bit_after(self, inhibited: bool) -> bool
-        ensures { result ≡ bit_after inhibited self }
-    {
-        match self {
-            Self::Inhibit => true,
-            Self::Permit => false,
-            _ => inhibited,
-        }
-    }
 }

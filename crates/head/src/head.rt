@@ -1,4 +1,6 @@
-// The head: its phase and its inhibit bit, what it does by itself and what it does on a command.
+// The head: its phase and its inhibit bit, what it does by itself and what it does on a command. Each table is one
+// match over the head's own phase and the move or the command, which changes the head in place: it is checked by eye
+// against the tables of docs/HEAD.md.
 ghost use Rattle.std.specs.Prelude.{◌≡◌};
 ghost use Rattle.head.specs.Commands.{obeyed};
 ghost use Rattle.head.specs.Answers.{buffer_receiving, head_receiving, receive_answer};
@@ -8,8 +10,11 @@ ghost use Rattle.head.specs.Moves.{MovesAsListed, moved};
 use crate::answer::answer;
 use crate::command::{Command, Reply};
 use crate::fault::{MoveFault, ReceiveFault};
-use crate::moves::{own_move, power_cut};
 use crate::phase::Phase;
+use crate::phase::Phase::{
+    Accepting, Disabled, Error, Escrow, Idle, Init, Rejecting, Returning, Stacked, Stacking,
+    Storing, Up40, Up41, Up42, Vend,
+};
 use number::Number;
 
 // The longest answer: an echo with two data bytes.
@@ -29,7 +34,7 @@ impl Head {
         ensures moves { MovesAsListed }
     {
         Head {
-            phase: Phase::Up40(Number),
+            phase: Up40(Number),
             inhibited: true,
         }
     }
@@ -73,23 +78,141 @@ impl Head {
     pub fn make_move(&mut self, to: Phase) -> Result<bool, MoveFault>
         ensures { (self.new, result) ≡ moved self.old to }
     {
-        let own = own_move(self.phase, self.inhibited, to);
-        let taken = own
-            .or(power_cut(self.phase, to))
-            .ok_or(MoveFault::NotListed)?;
-        self.phase = to;
-        // A power cut sets the inhibit bit.
-        self.inhibited |= own.is_none();
-        Ok(taken)
+        match (self.phase, to) {
+            (Idle(_), Accepting(_, 0x61..=0x68)) => {
+                self.phase = to;
+                Ok(false)
+            }
+            (Accepting(_, bill), Escrow(_, same)) if same == bill => {
+                self.phase = to;
+                Ok(false)
+            }
+            (Accepting(..) | Escrow(..) | Stacking(..), Rejecting(_, 0x71..=0x7f)) => {
+                self.phase = to;
+                Ok(false)
+            }
+            (Storing(_, bill), Vend(_, same)) if same == bill => {
+                self.phase = to;
+                Ok(false)
+            }
+            (Stacking(_, bill), Vend(_, same)) if same == bill => {
+                self.phase = to;
+                Ok(true)
+            }
+            (Stacked(..) | Rejecting(..) | Returning(_) | Init(_) | Storing(..), Disabled(_))
+                if self.inhibited => {
+                self.phase = to;
+                Ok(false)
+            }
+            (Stacked(..) | Rejecting(..) | Returning(_) | Init(_) | Storing(..), Idle(_))
+                if !self.inhibited => {
+                self.phase = to;
+                Ok(false)
+            }
+            (Idle(_) | Stacked(..) | Rejecting(..) | Returning(_) | Disabled(_), Error(..)) => {
+                self.phase = to;
+                Ok(false)
+            }
+            (Error(..), Init(_)) => {
+                self.phase = to;
+                Ok(false)
+            }
+            // Power cuts, which set the inhibit bit.
+            (
+                Idle(_)
+                | Accepting(..)
+                | Stacked(..)
+                | Rejecting(..)
+                | Returning(_)
+                | Disabled(_)
+                | Init(_)
+                | Storing(..)
+                | Up40(_)
+                | Error(..),
+                Up40(_),
+            ) => {
+                self.phase = to;
+                self.inhibited = true;
+                Ok(false)
+            }
+            (
+                Accepting(..) | Escrow(..) | Stacking(..) | Rejecting(..) | Returning(_) | Up41(_),
+                Up41(_),
+            ) => {
+                self.phase = to;
+                self.inhibited = true;
+                Ok(false)
+            }
+            (Vend(_, bill) | Stacked(_, bill) | Storing(_, bill) | Up42(_, bill), Up42(_, same))
+                if same == bill => {
+                self.phase = to;
+                self.inhibited = true;
+                Ok(false)
+            }
+            (Stacking(_, bill), Up42(_, same)) if same == bill => {
+                self.phase = to;
+                self.inhibited = true;
+                Ok(true)
+            }
+            _ => Err(MoveFault::NotListed),
+        }
     }
 
     // Does what a command says, and gives the reply, if any.
     fn obey(&mut self, command: Command) -> Option<Reply>
         ensures { (self.new, result) ≡ obeyed self.old command }
     {
-        let (to, reply) = command.cell(self.phase);
-        self.phase = to.unwrap_or(self.phase);
-        self.inhibited = command.bit_after(self.inhibited);
-        reply
+        match (self.phase, command) {
+            (phase, Command::StatusRequest) => Some(Reply::Status(phase)),
+            (Escrow(_, bill), Command::Stack) => {
+                self.phase = Stacking(Number, bill);
+                Some(Reply::Acknowledgement(Number))
+            }
+            (Escrow(..), Command::Return) => {
+                self.phase = Returning(Number);
+                Some(Reply::Acknowledgement(Number))
+            }
+            (Vend(_, bill) | Stacked(_, bill) | Up42(_, bill) | Storing(_, bill), Command::Reset) =>
+                {
+                    self.phase = Storing(Number, bill);
+                    Some(Reply::Acknowledgement(Number))
+                }
+            (_, Command::Reset) => {
+                self.phase = Init(Number);
+                Some(Reply::Acknowledgement(Number))
+            }
+            (Vend(_, bill), Command::Acknowledge) => {
+                self.phase = Stacked(Number, bill);
+                None
+            }
+            (_, Command::Acknowledge) => None,
+            (Idle(_) | Disabled(_) | Init(_) | Storing(..), Command::Configure) => {
+                Some(Reply::Echo)
+            }
+            (Idle(_) | Disabled(_), Command::Inhibit) => {
+                self.phase = Disabled(Number);
+                self.inhibited = true;
+                Some(Reply::Echo)
+            }
+            (Accepting(..) | Escrow(..), Command::Inhibit) => {
+                self.phase = Rejecting(Number, 0x79);
+                self.inhibited = true;
+                Some(Reply::Echo)
+            }
+            (_, Command::Inhibit) => {
+                self.inhibited = true;
+                Some(Reply::Echo)
+            }
+            (Idle(_) | Disabled(_), Command::Permit) => {
+                self.phase = Idle(Number);
+                self.inhibited = false;
+                Some(Reply::Echo)
+            }
+            (_, Command::Permit) => {
+                self.inhibited = false;
+                Some(Reply::Echo)
+            }
+            _ => Some(Reply::InvalidCommand(Number)),
+        }
     }
 }

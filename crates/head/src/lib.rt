@@ -5,7 +5,6 @@ mod answer;
 mod command;
 mod fault;
 mod head;
-mod moves;
 mod phase;
 
 pub use fault::{MoveFault, ReceiveFault};
