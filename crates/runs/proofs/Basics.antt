@@ -1,28 +1,22 @@
 -- Small facts of lists, options, results and tables of heads. Assumes nothing.
-use Rattle.std.proofs.Common.{◌≡◌, ℕ, Bool, true, false, cond, eqb, List, [], ◌∷◌, is_some, Some, None, Ok, Err, Option, Result, sym, refl, subst, arith}
-use Rattle.std.proofs.lemmas.Bool.{false≢true, eqb-true, eqb-false}
+use Rattle.std.proofs.Common.{◌≡◌, ℕ, Bool, true, false, cond, eqb, List, [], ◌∷◌, is_some, Some, None, Ok, Err, Option, Result, sym, refl, subst}
+use Rattle.std.proofs.lemmas.Bool.{eqb-true, eqb-false}
 use Rattle.std.specs.List.{AllByRecursion}
 
 pub every_map : {X : Type 0} (P Q : X → Type 0) → ((x : X) → P x → Q x) → (xs : List X) → AllByRecursion P xs → AllByRecursion Q xs
 every_map P Q f [] h = tt
 every_map P Q f (x ∷ xs) h = (f x h.0, every_map P Q f xs h.1)
 
-pub not_some : {A X : Type 0} (x : X) → None ≡ Some x → A
-not_some x e = let z : ◌≡◌ {A = ℕ} 0 1 = cc in absurd (omega arith)
-
 pub same_some : {X : Type 0} {o : Option X} {x y : X} → o ≡ Some x → o ≡ Some y → x ≡ y
 same_some p q = cc
 
 pub some_of : {X : Type 0} (o : Option X) → is_some o ≡ true → (x : X) × (o ≡ Some x)
-some_of None e = absurd (false≢true e)
+some_of None e = cc
 some_of (Some x) e = (x, refl)
-
-pub err_not_ok : {X A E : Type 0} (f : E) (x : A) → Err f ≡ Ok x → X
-err_not_ok f x e = let z : ◌≡◌ {A = ℕ} 0 1 = cc in absurd (omega arith)
 
 -- a check that was passed
 pub passed : {A E : Type 0} (b : Bool) (f : E) (next : Result A E) (x : A) → cond b (Err f) next ≡ Ok x → (b ≡ false) × (next ≡ Ok x)
-passed true f next x e = err_not_ok f x e
+passed true f next x e = cc
 passed false f next x e = (refl, e)
 
 -- what holds of k with its new values, and of every other head with its old ones, holds of all

@@ -14,7 +14,7 @@ use Rattle.reaction.specs.Calls.{called_all}
 use Rattle.runs.specs.declared.Allowance.{Allowance}
 use Rattle.runs.specs.Worlds.{Taken, Past, HeardSlot}
 use Rattle.runs.specs.Law.{worth_on, is_taken, is_among}
-use Rattle.runs.proofs.Basics.{every_map, not_some, same_some}
+use Rattle.runs.proofs.Basics.{every_map, same_some}
 use Rattle.runs.proofs.Classes.{Class, quiet, lying, entering, boxed, stored}
 use Rattle.runs.proofs.Kept.{Settled, AllSettled, Owing, Agrees, Prompt, Calm, Boxed, Lies}
 use Rattle.runs.proofs.OwnMoves.{untaken_none}
@@ -92,7 +92,7 @@ module _ (sheet : Option Draft) (b : ℕ) (v v' : Held) (p : Past) where
   all_settled quiet a is total k h = absurd k
   all_settled (lying c) a is total k h = absurd k
   all_settled (entering c) a is total k h = absurd k
-  all_settled boxed a is total k (inl h) = not_some a (sym h.1 ∙ is)
+  all_settled boxed a is total k (inl h) = cc (sym h.1 ∙ is)
   all_settled boxed a is total k (inr h) = same_total total (owed_settled sheet v a p.promised p.credited p.taken is h)
   all_settled stored a is total k h = absurd k
 

@@ -20,7 +20,7 @@ use Rattle.head.specs.declared.phase.ErrorCode.{ErrorCode}
 use Rattle.head.specs.declared.phase.ErrorCode.TheVariants.{StackerFull, StackerOpen, JamInAcceptor, JamInStacker, Pause, Cheated, Failure}
 use Rattle.head.specs.declared.phase.Phase.{Phase}
 use Rattle.head.specs.declared.phase.Phase.TheVariants.{Idle, Accepting, Escrow, Stacking, Vend, Stacked, Rejecting, Returning, Disabled, Init, Storing, Up40, Up41, Up42, Error}
-use Rattle.runs.proofs.Basics.{not_some, same_some}
+use Rattle.runs.proofs.Basics.{same_some}
 
 -- No bill that counts; a bill of the code c in escrow; one on its way into the box; one in the box that may not be credited
 -- yet; one in the box that is credited.
@@ -215,7 +215,7 @@ setting_stays s zero m e p = subst (λ n. ClassStays n p) (same_some refl e) (bo
 setting_stays s (suc zero) m e p = subst (λ n. ClassStays n p) (same_some refl e) (both_stay p).0
 setting_stays s (suc (suc zero)) m e p = subst (λ n. ClassStays n p) (same_some refl e) (options_stay s.options p)
 setting_stays s (suc (suc (suc zero))) m e p = subst (λ n. ClassStays n p) (same_some refl e) (both_stay p).1
-setting_stays s (suc (suc (suc (suc i)))) m e p = not_some m e
+setting_stays s (suc (suc (suc (suc i)))) m e p = cc
 
 -- STATUSES
 

@@ -8,15 +8,15 @@ use Rattle.head.specs.declared.phase.Phase.TheVariants.{Idle, Accepting, Escrow,
 use Rattle.runs.specs.declared.Allowance.{Allowance}
 use Rattle.runs.specs.declared.Allowance.TheVariants.{One}
 use Rattle.runs.specs.Worlds.{Taken, Past, HeardSlot}
-use Rattle.runs.specs.Law.{worth_on, is_among}
-use Rattle.runs.proofs.Basics.{every_map, not_some}
+use Rattle.runs.specs.Law.{is_among}
+use Rattle.runs.proofs.Basics.{every_map}
 use Rattle.runs.proofs.Classes.{Class, class, boxed, stored, Order, Turns, same, stacks, returns, resets, breaks_off, stores, lets_go, phase_after, turns, setting_stays, tells}
 use Rattle.runs.proofs.Kept.{Owing, AllSettled, Agrees, Kept, Old, Heard, Awaits, Sent, ordered, setting}
 
 module _ (sheet : Option Draft) (b : ℕ) (v : Held) (p : Past) where
   nothing_owed : (taken : List Taken) → v.promised ≡ None → Owing sheet v p.promised p.credited taken → ⊥
   nothing_owed [] none o = o
-  nothing_owed (t ∷ ts) none o = not_some (worth_on sheet t.code) (sym none ∙ o.0)
+  nothing_owed (t ∷ ts) none o = cc (sym none ∙ o.0)
 
   -- where nothing is promised, a bill in the box is credited
   pub boxed_settled : v.promised ≡ None → Agrees boxed sheet b v p → Agrees stored sheet b v p

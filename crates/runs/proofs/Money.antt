@@ -6,7 +6,6 @@ use Rattle.ledger.specs.Held.{Held, Heads}
 use Rattle.runs.specs.Worlds.{Taken, Past, World, new_world}
 use Rattle.runs.specs.Steps.{Event, Unused, Run, starts, goes_on}
 use Rattle.runs.specs.Law.{worth_on, worth_of, is_taken, owed, EveryBoxCloses, EveryTakenBillIsCredited}
-use Rattle.runs.proofs.Basics.{not_some}
 use Rattle.runs.proofs.HubSteps.{hub_kept}
 use Rattle.runs.proofs.Classes.{Class, class, quiet, lying, entering, boxed, stored}
 use Rattle.runs.proofs.Kept.{Untaken, Owing, Agrees, MoneyKeptIn}
@@ -39,7 +38,7 @@ closes stored sheet b v p h = settled_closes v.promised v.credited p.promised (w
 start_keeps : (ledger : Heads) → Unused ledger → MoneyKeptIn (new_world ledger)
 start_keeps ledger unused = record {
   kept = λ h. record { below = tt; priced = refl; agrees = (record { sum = (unused h).1; all = tt }, untaken_none 0 [] (unused h).0); prompt = tt };
-  inside = λ h e. not_some h e;
+  inside = λ h e. cc;
   numbers = tt;
 }
 

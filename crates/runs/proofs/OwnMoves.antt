@@ -1,6 +1,6 @@
 -- Own moves keep what is so of the money. Assumes nothing.
 use Rattle.std.proofs.Common.{◌≡◌, ℕ, suc, ◌≤◌, Bool, true, false, cond, ◌||◌, List, [], ◌∷◌, is_some, Some, None, Option, sym, refl, ap, ◌∙◌, inl, inr, arith}
-use Rattle.std.proofs.lemmas.Bool.{false≢true, ne_eqb}
+use Rattle.std.proofs.lemmas.Bool.{ne_eqb}
 use Rattle.std.specs.List.{AllByRecursion}
 use Rattle.frame.specs.Frames.{Content}
 use Rattle.sheet.specs.declared.sheet.Draft.{Draft}
@@ -10,7 +10,7 @@ use Rattle.runs.specs.declared.Allowance.TheVariants.{Free, One, Spent}
 use Rattle.runs.specs.Worlds.{Taken, Past, Line, still, poll, answer, second, replied, HeardSlot}
 use Rattle.runs.specs.Steps.{taking}
 use Rattle.runs.specs.Law.{is_taken}
-use Rattle.runs.proofs.Basics.{every_map, not_some}
+use Rattle.runs.proofs.Basics.{every_map}
 use Rattle.runs.proofs.Classes.{Class, Goes, stays, brought, refuses, ejects, takes, holds, forgets, again, Order, stack, back, reset, acknowledge, Told, free, nothing, boxing, offering, tells}
 use Rattle.runs.proofs.Kept.{Untaken, Agrees, Priced, Prompt, Kept, Tied, NoneLeft, Calm, Boxed, Lies, Old, Heard, Ready, Safe, Awaits, Sent, ordered, setting, OnLine}
 
@@ -21,7 +21,7 @@ new_number b (t ∷ ts) h =
     ap (λ x. x || is_taken (suc b) ts) (ne_eqb (suc b) t.bill (λ e. omega arith)) ∙ new_number b ts h.1
 
 pub untaken_none : {o : Option ℕ} (bill : ℕ) (taken : List Taken) → o ≡ None → Untaken o bill taken
-untaken_none bill taken none a some = not_some a (sym none ∙ some)
+untaken_none bill taken none a some = cc (sym none ∙ some)
 
 -- what is known of the promise of a bill that is on its way into the box
 pub untaken_entering : {o : Option ℕ} (b bill : ℕ) (taken : List Taken) → bill ≡ b → is_taken b taken ≡ false → Untaken o bill taken
@@ -71,7 +71,7 @@ safe_moves forgets v h = absurd h
 safe_moves again v h = absurd h
 
 priced_some : (sheet : Option Draft) (taken : List Taken) → is_some sheet ≡ true → Priced sheet taken
-priced_some None taken is = absurd (false≢true is)
+priced_some None taken is = cc
 priced_some (Some d) taken is = tt
 
 module _ (sheet : Option Draft) (b n : ℕ) (v : Held) (p : Past) where
