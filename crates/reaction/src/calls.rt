@@ -8,7 +8,7 @@ use ledger::{Ledger, LedgerFault};
 use ledger_calls::{Call, make_call};
 
 // At most two calls, in this order: the end of a promise that stands, and the promise of a bill in escrow.
-#[derive(Clone, Copy)]
+#[derive(Clone, Copy, Debug, PartialEq, Eq)]
 pub struct Calls {
     pub ending: Option<Call>,
     pub promise: Option<u32>,
@@ -19,21 +19,17 @@ impl Calls {
     fn count(self) -> usize
         ensures { result ≡ length (listed self) }
     {
-        usize::from(self.ending.is_some()) + usize::from(self.promise.is_some())
+        self.ending.iter().count() + self.promise.iter().count()
     }
 
     // The first so many of them: what is cut off first is the promise.
     fn first(self, count: usize) -> Calls
         ensures { listed result ≡ take count (listed self) }
     {
-        let mut first = self;
-        if count < self.count() {
-            first.promise = None;
-            if count == 0 {
-                first.ending = None;
-            }
+        Calls {
+            ending: self.ending.filter(|_| count > 0),
+            promise: self.promise.filter(|_| count >= self.count()),
         }
-        first
     }
 }
 
@@ -70,6 +66,7 @@ fn make_all<L: Ledger>(ledger: &mut L, head: u8, calls: Calls) -> Result<(), Led
     if let Some(ending) = calls.ending {
         let _ = make_call(ledger, head, ending);
     }
+    // No `map_or`: of a ledger that a closure changes nothing would be known afterwards.
     match calls.promise {
         Some(value) => make_call(ledger, head, Call::Promise(value)),
         None => Ok(()),

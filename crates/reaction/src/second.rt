@@ -10,7 +10,7 @@ use number::Number;
 use sheet::Setting;
 
 // What the hub sends after it has heard a head, each command with its byte.
-#[derive(Clone, Copy)]
+#[derive(Clone, Copy, Debug, PartialEq, Eq)]
 pub enum SecondFrame {
     Setting(Setting),
     // STACK-1
@@ -39,6 +39,7 @@ impl Reply {
 }
 
 impl SecondFrame {
+    // An arm for each case, since each code is a type of its own.
     fn command(&self) -> u8
         ensures { result ≡ (frame_message self.now).command }
     {

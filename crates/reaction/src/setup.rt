@@ -9,7 +9,7 @@ use message::Message;
 use sheet::{Setting, Sheet};
 
 // A head's sheet, and how many of its settings the head has confirmed, in their order.
-#[derive(Clone, Copy)]
+#[derive(Clone, Copy, Debug, PartialEq, Eq)]
 pub struct Setup {
     pub sheet: Sheet,
     pub confirmed: usize,
@@ -18,7 +18,7 @@ pub struct Setup {
 fn is_echo<'a>(setting: &Setting, message: Message<'a>) -> bool
     ensures { result ≡ same_content (setting_content setting.now) (message_content message.entry) }
 {
-    setting.command() == message.command() && setting.data() == message.data()
+    (setting.command(), setting.data()) == (message.command(), message.data())
 }
 
 impl Setup {
