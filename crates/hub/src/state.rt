@@ -28,6 +28,7 @@ pub struct State {
     pub(crate) count: u64,
 }
 
+// Clauses see what the hub knows, without the proofs that its turn table holds.
 impl Model for State {
     ghost use Rattle.hub.specs.States.{HubState};
 

@@ -1,7 +1,7 @@
 -- Every step keeps what a run keeps of the hub, so the law of turns stands at every moment of every run. Assumes nothing.
 use Rattle.std.proofs.Common.{◌≡◌, ℕ, zero, suc, ◌-◌, ◌<◌, ◌≤◌, Bool, true, false, cond, eqb, ltb, List, [], ◌∷◌, ◌++◌, map, length, get_or, set, replicate, is_some, is_ok, Some, None, Ok, Err, Option, Result, sym, refl, ap, ◌∙◌, subst, ⊎_elim, arith}
 use Rattle.std.specs.Option.{option_map}
-use Rattle.std.proofs.lemmas.Bool.{false≢true, ltb-false, eq-eqb, ne_eqb, cases_eq, cond-true, cond-false}
+use Rattle.std.proofs.lemmas.Bool.{ltb-false, eq-eqb, ne_eqb, cases_eq, cond-true, cond-false}
 use Rattle.std.proofs.lemmas.List.{get_or-set_same, get_or-set_other, length-set}
 use Rattle.frame.specs.Frames.{Content}
 use Rattle.orders.specs.Choice.{Chosen, chosen}
@@ -46,7 +46,7 @@ use Rattle.hub.specs.declared.state.Slot.TheVariants.{Closed}
 use Rattle.runs.specs.Worlds.{Mark, Memory, World, put, new_world}
 use Rattle.runs.specs.Steps.{Event, Step, admits, dismisses, opens, reports, ends, cuts, restarts, poll_arrives, second_arrives, moves, Run, starts, goes_on, memory_admitting, memory_dismissing, heard_answer, admitted_world, dismissed_world, opened_world, reported_world, ended_world, cut_world, restarted_world}
 use Rattle.runs.specs.Law.{table_after, EveryHeadGetsItsTurn, WishesPassedOverRightly}
-use Rattle.runs.proofs.Basics.{not_some, passed}
+use Rattle.runs.proofs.Basics.{passed}
 use Rattle.runs.proofs.HubInvariant.{Faithful, HubKept}
 use Rattle.runs.proofs.Served.{first_for, second_for}
 use Rattle.runs.proofs.Marks.{table_append, faithful_append, marks_keep, rounds_kept, wishes_kept}
@@ -60,11 +60,11 @@ admitted_number s n sheet done is =
   where
     in_turn : (r : Result (Unit {0}) AdmissionFault) → unless_turned_down r (checked_answer s n (Ok sheet)) ≡ Ok done → is_ok r ≡ true
     in_turn (Ok _) is = refl
-    in_turn (Err e) is = absurd (false≢true (ap is_ok is))
+    in_turn (Err e) is = cc
 
 sheet_told : (b : Bool) (d e : Draft) → Ok e ≡ cond b (Ok d) (Err SheetWrong) → e ≡ d
 sheet_told true d e is = cc
-sheet_told false d e is = absurd (false≢true (sym (ap is_ok is)))
+sheet_told false d e is = cc
 
 -- a dismissal: no slot is open, the number is a head's, and the head is admitted no more
 dismissed_idle : (s : HubState) (n : ℕ) (done : Unit {0}) → dismissal_answer s n ≡ Ok done → is_open s.slot ≡ false
@@ -75,7 +75,7 @@ dismissed_turn s n done is = in_turn (turns.dismissal_answer s.table n) (passed 
   where
     in_turn : (r : Result (Unit {0}) DismissalFault) → unless_kept r ≡ Ok done → r ≡ Ok tt
     in_turn (Ok _) is = refl
-    in_turn (Err e) is = absurd (false≢true (ap is_ok is))
+    in_turn (Err e) is = cc
 
 dismissed_number : (t : Table) (n : ℕ) → turns.dismissal_answer t n ≡ Ok tt → n ≤ 13
 dismissed_number t n is = ltb-false 13 n (passed (ltb 13 n) _ _ tt is).0
@@ -97,7 +97,7 @@ opened_chosen s wish room o is =
   where
     found : (choice : Option ℕ) → opened_for s choice ≡ Ok o → choice ≡ Some o.head
     found (Some h) is = ap head_in is
-    found None is = absurd (false≢true (ap is_ok is))
+    found None is = cc
 
 -- THE PARTS OF WHAT IS KEPT
 
@@ -150,9 +150,9 @@ no_setup (suc n) (suc h) = no_setup n h
 none_kept : (s : HubState) (sheets : ℕ → Option Draft) → HeadsKept (restarted s) sheets
 none_kept s sheets = record {
   places = refl;
-  admitted = λ h in'. absurd (false≢true (sym (not_in_empty h) ∙ in'));
-  served = λ h is. not_some _ is;
-  known = λ h u is. not_some _ (sym (no_setup 14 h) ∙ is);
+  admitted = λ h in'. cc (sym (not_in_empty h) ∙ in');
+  served = λ h is. cc;
+  known = λ h u is. cc (sym (no_setup 14 h) ∙ is);
 }
 
 -- ONE HEAD
@@ -196,9 +196,9 @@ dismissed_kept s sheets n kept idle gone =
       admitted = at_set (λ h u. is_admitted (turns.after_dismissal s.table n) h ≡ true → is_some u ≡ true) s.setups n None lt
           (λ in'. sym (dismissed_gone s.table n gone) ∙ in')
           (λ h ne in'. kept.admitted h (admitted_before h ne in'));
-      served = λ h is. absurd (false≢true (sym idle ∙ ap is_some is));
+      served = λ h is. cc (sym idle ∙ ap is_some is);
       known = at_set (λ h u. (v : Setup) → u ≡ Some v → sheets h ≡ Some (draft_of v.sheet)) s.setups n None lt
-          (λ v is. not_some _ is)
+          (λ v is. cc)
           (λ h ne. kept.known h);
     }
   where
@@ -246,7 +246,7 @@ some_mapped f (Some u) = refl
 
 -- a setup changed but for its sheet
 known_mapped : (f : Setup → Setup) → ((u : Setup) → (f u).sheet ≡ u.sheet) → (sheet : Option Draft) (o : Option Setup) → ((u : Setup) → o ≡ Some u → sheet ≡ Some (draft_of u.sheet)) → (v : Setup) → option_map f o ≡ Some v → sheet ≡ Some (draft_of v.sheet)
-known_mapped f same sheet None known v is = not_some _ is
+known_mapped f same sheet None known v is = cc
 known_mapped f same sheet (Some u) known v is =
     let own : f u ≡ v = cc in
     known u refl ∙ ap (λ x. Some (draft_of x)) (sym (same u) ∙ ap (λ x. x.sheet) own)
@@ -367,7 +367,7 @@ second_keeps w p bs (Ok h) is kept =
     (reported_kept w.hub w.memory.sheets h (λ u. setup_hearing (setting_if (sent_in w.hub.slot) u) (heard_in bs) u) Closed (heads_of kept)
     (second_for w.hub p bs h is)
     (λ u. hearing_sheet (setting_if (sent_in w.hub.slot) u) (heard_in bs) u)
-    (λ k e. not_some _ e))
+    (λ k e. cc))
     (marks_of kept)
 second_keeps w p bs (Err e) is kept = kept
 

@@ -1,6 +1,5 @@
 -- For which head a report is, what it hears, and when a slot is closed. Assumes nothing.
-use Rattle.std.proofs.Common.{◌≡◌, ℕ, Bool, true, false, cond, eqb, ltb, ◌⊎◌, List, length, Some, None, Ok, Err, Option, Result, sym, refl, ap, ◌∙◌, inl, inr}
-use Rattle.std.proofs.lemmas.Bool.{false≢true}
+use Rattle.std.proofs.Common.{◌≡◌, ℕ, Bool, true, false, cond, eqb, ltb, ◌⊎◌, List, length, Some, None, Ok, Err, Option, Result, refl, ap, ◌∙◌, inl, inr}
 use Rattle.sheet.specs.declared.fault.SheetFault.{SheetFault}
 use Rattle.sheet.specs.declared.sheet.Sheet.{Sheet}
 use Rattle.head.specs.Phases.{status}
@@ -15,7 +14,7 @@ use Rattle.hub.specs.declared.state.Slot.{Slot}
 use Rattle.hub.specs.declared.state.Slot.TheVariants.{Closed, First, Second}
 use Rattle.runs.specs.Worlds.{Line, still, poll, answer, second, replied}
 use Rattle.runs.specs.Steps.{FairlyHeard}
-use Rattle.runs.proofs.Basics.{not_some, err_not_ok, passed}
+use Rattle.runs.proofs.Basics.{passed}
 use Rattle.runs.proofs.Classes.{status_reads}
 
 -- WHOSE REPORT
@@ -27,11 +26,11 @@ Serves of = (slot : Slot) (h : ℕ) → of slot ≡ Some h → served_by slot �
 first_serves : Serves first_of
 first_serves Closed h e = e
 first_serves (First g) h e = e
-first_serves (Second g sent) h e = not_some h e
+first_serves (Second g sent) h e = cc
 
 second_serves : Serves second_of
 second_serves Closed h e = e
-second_serves (First g) h e = not_some h e
+second_serves (First g) h e = cc
 second_serves (Second g sent) h e = e
 
 awaited_serves : {of : Slot → Option ℕ} → Serves of → (s : HubState) (n h : ℕ) → awaited_by of s n ≡ Some h → served_by s.slot ≡ Some h
@@ -39,10 +38,10 @@ awaited_serves {of} serves s n h = go (eqb n s.count)
   where
     go : (b : Bool) → cond b (of s.slot) None ≡ Some h → served_by s.slot ≡ Some h
     go true e = serves s.slot h e
-    go false e = not_some h e
+    go false e = cc
 
 handed_for : {R : Type 0} (o : Option ℕ) (p : Pass R) (bs : List ℕ) (h : ℕ) → handed o p bs ≡ Ok h → o ≡ Some h
-handed_for None p bs h e = err_not_ok _ h e
+handed_for None p bs h e = cc
 handed_for (Some g) p bs h e = let taken = (passed (ltb 512 (length bs)) _ _ h e).1 in cc
 
 report_for : {R : Type 0} {of : Slot → Option ℕ} → Serves of → (s : HubState) (p : Pass R) (bs : List ℕ) (h : ℕ) → check of s p bs ≡ Ok h → served_by s.slot ≡ Some h
@@ -59,7 +58,7 @@ first_for s p bs room h e = cut_for s p bs h (in_room (check first_of s p bs) e)
   where
     in_room : (r : Result ℕ CutRefusal) → with_room room p r ≡ Ok h → r ≡ Ok h
     in_room (Ok g) e = let fits = (passed (ltb room 7) _ _ h e).1 in cc
-    in_room (Err f) e = err_not_ok _ h e
+    in_room (Err f) e = cc
 
 -- WHAT IS HEARD
 
@@ -79,8 +78,8 @@ hears (replied o) bs e = inl e
 
 not_open : (slot : Slot) → is_open slot ≡ false → served_by slot ≡ None
 not_open Closed e = refl
-not_open (First h) e = absurd (false≢true (sym e))
-not_open (Second h sent) e = absurd (false≢true (sym e))
+not_open (First h) e = cc
+not_open (Second h sent) e = cc
 
 -- a head is admitted between slots
 pub admits_closed : (s : HubState) (n : ℕ) (checked : Result Sheet SheetFault) → admission_answer s n checked ≡ Ok tt → served_by s.slot ≡ None

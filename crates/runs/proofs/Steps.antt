@@ -30,7 +30,7 @@ use Rattle.runs.specs.declared.Allowance.{Allowance}
 use Rattle.runs.specs.declared.Allowance.TheVariants.{Free, One}
 use Rattle.runs.specs.Worlds.{Past, still, answer, second, HeardSlot, Mark, World}
 use Rattle.runs.specs.Steps.{Event, with_marks, with_past, memory_admitting, memory_dismissing, noted_all, bill_answered, heard_answer, bringing, taking, opened_world, sending, reported_world, ended_world, cut_world, answered_world, obeyed_world, moved_world, FairlyHeard, SameSheet, Allows, elsewhere, freely, once, Step, admits, dismisses, opens, reports, ends, cuts, restarts, poll_arrives, second_arrives, moves}
-use Rattle.runs.proofs.Basics.{every_map, not_some, same_some, some_of, at_eq}
+use Rattle.runs.proofs.Basics.{every_map, same_some, some_of, at_eq}
 use Rattle.runs.proofs.HubInvariant.{HubKept}
 use Rattle.runs.proofs.Classes.{class, move_goes, tells, reacts}
 use Rattle.runs.proofs.Kept.{Kept, Heard, OnLine, KeptOf, LineOf, MoneyKept, MoneyKeptIn}
@@ -63,7 +63,7 @@ module _ (w : World) (hub : HubKept w) (inv : MoneyKeptIn w) where
         at_eq (λ h b. Kept h w.memory.heard (cond b (Some d) (w.memory.sheets h)) (class (w.heads h).phase) (w.memory.bills h) (w.ledger h) (w.memory.pasts h)) n
         (sheet_keeps n w.memory.heard (w.memory.sheets n) d (class (w.heads n).phase) (w.memory.bills n) (w.ledger n) (w.memory.pasts n) (same refl) (inv.kept n))
         (λ h ne. inv.kept h);
-    inside = λ h is. not_some h (sym (admits_closed w.hub n (Ok sheet) e) ∙ is);
+    inside = λ h is. cc (sym (admits_closed w.hub n (Ok sheet) e) ∙ is);
     numbers = inv.numbers;
   }
   admitted n d (Ok sheet) (Err f) e same = inv
@@ -84,11 +84,11 @@ module _ (w : World) (hub : HubKept w) (inv : MoneyKeptIn w) where
   opened wish (Err e) = inv
 
   ended : (bs : List ℕ) (r : Result ℕ SecondRefusal) → MoneyKeptIn (ended_world w bs r)
-  ended bs (Ok h) = record { kept = inv.kept; inside = λ k is. not_some k is; numbers = inv.numbers }
+  ended bs (Ok h) = record { kept = inv.kept; inside = λ k is. cc; numbers = inv.numbers }
   ended bs (Err e) = inv
 
   restarted_so : (marks : List Mark) → MoneyKept None w.ledger w.heads still Free (with_marks w.memory marks)
-  restarted_so marks = record { kept = inv.kept; inside = λ h is. not_some h is; numbers = inv.numbers }
+  restarted_so marks = record { kept = inv.kept; inside = λ h is. cc; numbers = inv.numbers }
 
   -- FIRST REPORTS
 
@@ -132,7 +132,7 @@ module _ (w : World) (hub : HubKept w) (inv : MoneyKeptIn w) where
         MoneyKept None (called_all w.ledger h (take n cs)) w.heads still Free (with_marks (with_past w.memory h (past_after (take n cs))) marks)
     cut_after n marks cs g = record {
       kept = all_kept w.memory.heard (take n cs) g (λ k ne. inv.kept k);
-      inside = λ k e. not_some k e;
+      inside = λ k e. cc;
       numbers = inv.numbers;
     }
 
