@@ -8,7 +8,7 @@ use std::marker::Model;
 use turns::table::TurnTable;
 
 // The slot, by what it awaits.
-#[derive(Clone, Copy)]
+#[derive(Clone, Copy, Debug, PartialEq, Eq)]
 pub enum Slot {
     Closed,
     // The first report, for this head.
