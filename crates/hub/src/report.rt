@@ -40,7 +40,7 @@ pub struct FirstReport<'a> {
     pub heard: Result<Heard<'a>, NothingHeard>,
     // Whether the hub took what the head said.
     pub taken: Result<(), ReportFault>,
-    // The length of the second frame, 0 for none.
+    // The length of the second frame, 0 for none: whoever puts that many bytes of the buffer on the line puts none.
     pub length: usize,
     pub pass: SecondPass,
 }

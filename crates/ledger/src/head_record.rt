@@ -21,7 +21,7 @@ impl HeadRecord {
     ghost use Rattle.ledger.specs.Tables.{held_in, starting};
 
     // A head that starts with so many places.
-    pub fn starting(places: u16) -> HeadRecord
+    pub(crate) fn starting(places: u16) -> HeadRecord
         requires { places ≤ most_places }
         ensures { held_in result ≡ starting places }
     {
@@ -33,7 +33,7 @@ impl HeadRecord {
     }
 
     // The record once an amount is promised.
-    pub fn promise(self, amount: u32) -> Result<HeadRecord, LedgerFault>
+    pub(crate) fn promise(self, amount: u32) -> Result<HeadRecord, LedgerFault>
         ensures { MatchResult result (λ after. (promise_check self.promised self.places 0 amount ≡ Ok tt) × (held_in after ≡ promising (held_in self) amount)) (λ fault. promise_check self.promised self.places 0 amount ≡ Err fault) }
     {
         check_promise(amount, self.promised, self.places)?;
@@ -45,7 +45,7 @@ impl HeadRecord {
     }
 
     // The record once the promised amount is credited.
-    pub fn settle(self) -> Result<HeadRecord, LedgerFault>
+    pub(crate) fn settle(self) -> Result<HeadRecord, LedgerFault>
         ensures { MatchResult result (λ after. (end_check self.promised ≡ Ok tt) × (held_in after ≡ settling (held_in self))) (λ fault. end_check self.promised ≡ Err fault) }
     {
         let amount = self.promised.ok_or(LedgerFault::NonePromised(Number))?;
@@ -57,7 +57,7 @@ impl HeadRecord {
     }
 
     // The record once the promised amount is given back.
-    pub fn give_back(self) -> Result<HeadRecord, LedgerFault>
+    pub(crate) fn give_back(self) -> Result<HeadRecord, LedgerFault>
         ensures { MatchResult result (λ after. (end_check self.promised ≡ Ok tt) × (held_in after ≡ giving_back (held_in self))) (λ fault. end_check self.promised ≡ Err fault) }
     {
         self.promised.ok_or(LedgerFault::NonePromised(Number))?;

@@ -7,6 +7,7 @@ ghost use Rattle.orders.specs.Slots.{lowered, served};
 
 use super::turn::Turn;
 
+// How many heads there are. The ledgers, which know nothing of turns, say it for themselves.
 pub const HEADS: usize = 14;
 
 // Head h's turn stands at place h, None where the head is not admitted.
