@@ -6,14 +6,16 @@ use crate::pass::SecondPass;
 use message::{Heard, NothingHeard};
 use reaction::HeadFault;
 use status::StatusFault;
-use std::fmt;
+use thiserror::Error;
 
 // Why the hub did not take what the head said.
-#[derive(Clone, Copy, Debug, PartialEq, Eq)]
+#[derive(Clone, Copy, Debug, PartialEq, Eq, Error)]
 pub enum ReportFault {
     // The message heard is no status, and counts as nothing heard.
+    #[error("no status, {0}")]
     Status(StatusFault),
     // The bill in escrow is returned.
+    #[error("the bill is returned: {0}")]
     Head(HeadFault),
 }
 
@@ -30,15 +32,6 @@ impl From<HeadFault> for ReportFault {
 
     fn from(fault: HeadFault) -> ReportFault {
         ReportFault::Head(fault)
-    }
-}
-
-impl fmt::Display for ReportFault {
-    fn fmt<W: fmt::Write>(&self, f: &mut fmt::Formatter<W>) -> fmt::Result {
-        match self {
-            ReportFault::Status(fault) => write!(f, "no status, {fault}"),
-            ReportFault::Head(fault) => write!(f, "the bill is returned: {fault}"),
-        }
     }
 }
 

@@ -14,7 +14,7 @@ const NONE: Pair = Pair {
 };
 
 // Limit 1; the code 61H is worth 500.
-const SHEET: Draft = Draft {
+pub(crate) const SHEET: Draft = Draft {
     limit: 1,
     denominations: [
         Pair {

@@ -1,38 +1,48 @@
 // The table of reactions.
 ghost use Rattle.std.specs.Prelude.{◌≡◌};
-ghost use Rattle.reaction.specs.Reactions.{reaction_to, status_content};
+ghost use Rattle.reaction.specs.Reactions.{bill_reply, reaction_to, status_content};
 
 use crate::fault::HeadFault;
 use crate::reaction::{Reaction, Reply};
 use crate::setup::Setup;
+use codes::BareCode::{
+    Accepting, Cheated, Disabled, Idling, Initializing, JamInAcceptor, JamInStacker, Pause,
+    PowerUp, PowerUpWithBillInAcceptor, PowerUpWithBillInStacker, Returning, Stacked, StackerFull,
+    StackerOpen, Stacking, VendValid,
+};
+use codes::DetailedCode::{Escrow, Failure, Rejecting};
 use ledger_calls::Call::{GiveBack, Settle};
-use status::Status;
+use status::Status::{self, Bare, Detailed};
 
-// The table of reactions, by the code of the status and what the bill in escrow is worth, if anything. The first
-// cause that applies returns the bill.
+// The reply to a bill in escrow. The first cause that applies returns the bill.
+fn bill_reply(setup: &Setup, bill: u8) -> Reply
+    ensures { result ≡ bill_reply setup.now bill }
+{
+    if setup.next_setting().is_some() {
+        return Reply::Return(HeadFault::Settings);
+    }
+    match setup.sheet.value(bill) {
+        None => Reply::Return(HeadFault::Value),
+        Some(_) if !setup.sheet.is_enabled(bill) => Reply::Return(HeadFault::Disabled),
+        Some(value) => Reply::Stack(value),
+    }
+}
+
+// The table of reactions, by the status.
 pub fn react(setup: &Setup, status: Status) -> Reaction
     ensures { result ≡ reaction_to setup.now (status_content status) }
 {
-    let bill = status.detail().unwrap_or(0);
-    let (ending, reply) = match (status.code(), setup.sheet.value(bill)) {
-        (0x11 | 0x1a, _) => (Some(GiveBack), Reply::NextSetting),
-        (0x12 | 0x17 | 0x18, _) => (Some(GiveBack), Reply::Nothing),
-        (0x1b, _) => (None, Reply::NextSetting),
-        (0x13, _) if setup.next_setting().is_some() => (
-            Some(GiveBack),
-            Reply::Return(HeadFault::Settings),
-        ),
-        (0x13, None) => (Some(GiveBack), Reply::Return(HeadFault::Value)),
-        (0x13, Some(_)) if !setup.sheet.is_enabled(bill) => (
-            Some(GiveBack),
-            Reply::Return(HeadFault::Disabled),
-        ),
-        (0x13, Some(value)) => (Some(GiveBack), Reply::Stack(value)),
-        (0x15, _) => (Some(Settle), Reply::Acknowledge),
-        (0x40 | 0x41, _) => (Some(GiveBack), Reply::Reset),
-        (0x42, _) => (Some(Settle), Reply::Reset),
-        (0x14 | 0x16 | 0x43..=0x49, _) => (None, Reply::Nothing),
-        _ => (None, Reply::Nothing),
+    let (ending, reply) = match status {
+        Bare(Idling | Disabled) => (Some(GiveBack), Reply::NextSetting),
+        Bare(Accepting | Returning) | Detailed(Rejecting, _) => (Some(GiveBack), Reply::Nothing),
+        Bare(Initializing) => (None, Reply::NextSetting),
+        Detailed(Escrow, bill) => (Some(GiveBack), bill_reply(setup, bill)),
+        Bare(VendValid) => (Some(Settle), Reply::Acknowledge),
+        Bare(PowerUp | PowerUpWithBillInAcceptor) => (Some(GiveBack), Reply::Reset),
+        Bare(PowerUpWithBillInStacker) => (Some(Settle), Reply::Reset),
+        Bare(Stacking | Stacked | StackerFull | StackerOpen)
+        | Bare(JamInAcceptor | JamInStacker | Pause | Cheated)
+        | Detailed(Failure, _) => (None, Reply::Nothing),
     };
     Reaction { ending, reply }
 }

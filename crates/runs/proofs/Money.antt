@@ -5,7 +5,6 @@ use Rattle.ledger.specs.Held.{Held, Heads}
 use Rattle.runs.specs.Worlds.{Taken, Past, World, new_world}
 use Rattle.runs.specs.Steps.{Event, Unused, Run, starts, goes_on}
 use Rattle.runs.specs.Law.{worth_of, is_taken, owed, EveryBoxCloses, EveryTakenBillIsCredited}
-use Rattle.runs.proofs.Basics.{not_some}
 use Rattle.runs.proofs.HubSteps.{hub_kept}
 use Rattle.runs.proofs.Classes.{Class, class}
 use Rattle.runs.proofs.Kept.{Owing, Agrees, MoneyKeptIn}
@@ -25,7 +24,7 @@ closes C sheet b v p h = grind (arith, owing_closes, untaken_none, untaken_enter
 start_keeps : (ledger : Heads) → Unused ledger → MoneyKeptIn (new_world ledger)
 start_keeps ledger unused = record {
   kept = λ h. record { below = tt; priced = refl; agrees = (record { sum = (unused h).1; all = tt }, untaken_none 0 [] (unused h).0); prompt = tt };
-  inside = λ h e. not_some h e;
+  inside = λ h e. cc;
   numbers = tt;
 }
 

@@ -2,10 +2,11 @@
 ghost use Rattle.std.specs.Prelude.{◌≡◌};
 ghost use Rattle.sheet.specs.Sheets.{sheet_fault_number};
 
-use std::fmt;
+use thiserror::Error;
 
-#[derive(Clone, Copy, Debug, PartialEq, Eq)]
+#[derive(Clone, Copy, Debug, PartialEq, Eq, Error)]
 pub enum SheetFault {
+    #[error("14: the sheet's limit, an exponent or a value without a mantissa is wrong")]
     SheetWrong = 14,
 }
 
@@ -14,15 +15,5 @@ impl SheetFault {
         ensures { result ≡ sheet_fault_number self }
     {
         self as u8
-    }
-}
-
-impl fmt::Display for SheetFault {
-    fn fmt<W: fmt::Write>(&self, f: &mut fmt::Formatter<W>) -> fmt::Result {
-        match self {
-            SheetFault::SheetWrong => f.write_str(
-                "14: the sheet's limit, an exponent or a value without a mantissa is wrong",
-            ),
-        }
     }
 }
