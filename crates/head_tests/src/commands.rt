@@ -9,7 +9,8 @@ use number::{Number, Numbered};
 use std::process::Abort;
 use std::test::Fail;
 
-// A phase, the code and the data of its status, and a mark for each column, in the order of `COLUMNS` (see `outcome`).
+// A phase, the code and the data of its status, and a mark for each command in the order 41H, 43H, 40H, 50H,
+// C0H C1H C5H, C3H 01H, C3H 00H (see `outcome`).
 #[derive(Clone, Copy)]
 struct Row(Phase, u8, &'static [u8], &'static [u8; 7]);
 
@@ -34,31 +35,15 @@ const ROWS: [Row; 17] = [
 ];
 
 // A command byte and the data that goes with it.
-type Message = (u8, &'static [u8]);
-
-// A column of the marks: the messages that it stands for, and the inhibit bit that they set, if they do.
-struct Column(&'static [Message], Option<bool>);
-
-const COLUMNS: [Column; 7] = [
-    Column(&[(0x41, &[])], None),
-    Column(&[(0x43, &[])], None),
-    Column(&[(0x40, &[])], None),
-    Column(&[(0x50, &[])], None),
-    Column(
-        &[
-            (0xc0, &[0x83, 0x00]),
-            (0xc1, &[0x00, 0x01]),
-            (0xc5, &[0xff, 0x7f]),
-        ],
-        None,
-    ),
-    Column(&[(0xc3, &[0x01])], Some(true)),
-    Column(&[(0xc3, &[0x00])], Some(false)),
-];
+type Message<'a> = (u8, &'a [u8]);
 
 // The answer to a message, if any, and the phase after it, that a mark stands for. A letter for each, so that a row
 // is read beside its row of docs/HEAD.md.
-fn outcome(mark: u8, message: Message, phase: Phase) -> Result<(Option<Message>, Phase), Fail> {
+fn outcome<'a>(
+    mark: u8,
+    message: Message<'a>,
+    phase: Phase,
+) -> Result<(Option<Message<'a>>, Phase), Fail> {
     match mark {
         b'-' => Ok((Some((0x4b, &[])), phase)),
         b's' => Ok((Some((0x50, &[])), Stacking(Number, 0x62))),
@@ -76,7 +61,7 @@ fn outcome(mark: u8, message: Message, phase: Phase) -> Result<(Option<Message>,
 }
 
 // Messages that get 4BH in every phase.
-const UNKNOWN: [Message; 20] = [
+const UNKNOWN: [Message<'static>; 20] = [
     (0x11, &[0x00]),
     (0x40, &[0x00]),
     (0x41, &[0x00]),
@@ -111,11 +96,11 @@ fn pair(
     let (answer, phase) = outcome(mark, message, way.0)?;
     let mut wanted = [0xee; 9];
     let length = match answer {
-        Some((command, data)) => frame::write(command, data, &mut wanted)?,
+        Some((code, data)) => frame::write(code, data, &mut wanted)?,
         None => 0,
     };
-    let mut head = bring(rt, way)?;
     let (command, data) = message;
+    let mut head = bring(rt, way)?;
     let mut line = [0; 9];
     frame::write(command, data, &mut line)?;
     let mut buffer = [0xee; 9];
@@ -146,15 +131,19 @@ fn row_of(phase: Phase) -> Result<Row, Fail> {
 }
 
 fn row_holds(rt: &impl Abort, way: Way) -> Result<(), Fail> {
-    let Way(phase, inhibited, _) = way;
+    let Way(phase, bit, _) = way;
     let Row(_, code, data, marks) = row_of(phase)?;
     tells(rt, bring(rt, way)?, code, data)?;
-    for (Column(messages, bit), mark) in COLUMNS.iter().zip(marks) {
-        for message in *messages {
-            pair(rt, way, *message, *mark, bit.unwrap_or(inhibited))?;
-        }
-    }
-    Ok(())
+    let [stack, back, reset, acknowledge, setting, inhibit, permit] = *marks;
+    pair(rt, way, (0x41, &[]), stack, bit)?;
+    pair(rt, way, (0x43, &[]), back, bit)?;
+    pair(rt, way, (0x40, &[]), reset, bit)?;
+    pair(rt, way, (0x50, &[]), acknowledge, bit)?;
+    pair(rt, way, (0xc0, &[0x83, 0x00]), setting, bit)?;
+    pair(rt, way, (0xc1, &[0x00, 0x01]), setting, bit)?;
+    pair(rt, way, (0xc5, &[0xff, 0x7f]), setting, bit)?;
+    pair(rt, way, (0xc3, &[0x01]), inhibit, true)?;
+    pair(rt, way, (0xc3, &[0x00]), permit, false)
 }
 
 #[test]
