@@ -41,6 +41,11 @@ impl TryFrom<Pair> for Denomination {
 }
 
 impl Denomination {
+    pub const UNASSIGNED: Denomination = Denomination {
+        mantissa: 0,
+        exponent: 0,
+    };
+
     // What a bill is worth, or None where the code is unassigned.
     #[tactic(auto, using(crate::proofs::Worths::product_small))]
     pub fn value(self) -> Option<u32>
