@@ -16,7 +16,8 @@ pub struct HeadLine {
     pub places: u16,
 }
 
-// Of no promised amount 0 is printed.
+// Of no promised amount 0 is printed. By hand, as the contract of the report relies on `ghost output`, which a derive
+// does not give.
 impl fmt::Display for HeadLine {
     ghost output = { λ x. Some (head_text x.head (unwrap_or x.promised 0) x.credited x.places) };
 
@@ -36,6 +37,7 @@ impl fmt::Display for HeadLine {
 #[derive(Clone, Copy)]
 pub struct Refusal(pub DrawerFault);
 
+// By hand for the same reason.
 impl fmt::Display for Refusal {
     ghost output = { λ x. Some (refusal_text x.0) };
 

@@ -20,7 +20,7 @@ mod write;
 use write::{put_amount, put_settled};
 
 // A ledger in the caller's bytes, with so many fields for bills in each section, or 0 where the check refused
-// the bytes.
+// the bytes: no section of 0 fields for bills passes, so that such a drawer holds nothing.
 #[derive(Drop)]
 pub struct Drawer<'a> {
     bytes: &'a mut [u8],
@@ -63,22 +63,23 @@ impl<'a> Drawer<'a> {
         ensures bytes { result.now ≡ self.entry.bytes.now }
         ensures same { result.ghost_name ≡ self.entry.bytes.ghost_name }
     {
-        let Drawer { bytes, bills: _ } = self;
-        bytes
+        self.bytes
     }
 
-    fn section(&self, head: u8) -> Section
-        ensures { result ≡ section_at self.now.bytes.now self.now.bills head }
+    // What the section of a head says.
+    fn section(&self, head: u8) -> Result<Section, LedgerFault>
+        ensures { result ≡ question head (section_at self.now.bytes.now self.now.bills head) }
     {
-        section_of(self.bytes, self.bills, head)
+        head_index(head)?;
+        Ok(section_of(self.bytes, self.bills, head))
     }
 
     // The field of a head's promise, and what its section says.
     fn opened(&self, head: u8) -> Result<(usize, Section), LedgerFault>
         ensures { result ≡ question head (promise_of self.now.bills head, section_at self.now.bytes.now self.now.bills head) }
     {
-        let index = head_index(head)?;
-        Ok(((self.bills as usize + 1) * index, self.section(head)))
+        let held = self.section(head)?;
+        Ok(((self.bills as usize + 1) * usize::from(head), held))
     }
 }
 
@@ -100,18 +101,15 @@ impl<'a> Ledger for Drawer<'a> {
     ghost joins = { drawer_joins };
 
     fn promised(&self, head: u8) -> Result<Option<u32>, LedgerFault> {
-        head_index(head)?;
-        Ok(self.section(head).promised)
+        Ok(self.section(head)?.promised)
     }
 
     fn credited(&self, head: u8) -> Result<u64, LedgerFault> {
-        head_index(head)?;
-        Ok(self.section(head).credited)
+        Ok(self.section(head)?.credited)
     }
 
     fn places(&self, head: u8) -> Result<u16, LedgerFault> {
-        head_index(head)?;
-        Ok(self.section(head).places())
+        Ok(self.section(head)?.places())
     }
 
     fn promise(&mut self, head: u8, amount: u32) -> Result<(), LedgerFault>

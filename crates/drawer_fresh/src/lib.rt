@@ -7,15 +7,16 @@ ghost use Rattle.drawer_fresh.specs.Fresh.{fresh_section, fresh_bytes, HoldsFres
 
 use drawer_image::fault::DrawerFault;
 use drawer_image::size::check_size;
+use drawer_image::{FIELD, FREE_TAG, PROMISE_TAG};
 
 // The byte at a place of a section without a promise or a bill, of as many fields as reach that place: the tag of
 // its field first, then the length 4, then the amount 0.
 fn fresh_byte(place: usize) -> u8
     ensures { (k : ℕ) → place < 7 * (k + 1) → result ≡ slice_index (fresh_section k) place }
 {
-    match (place / 7, place % 7) {
-        (0, 0) => 0x50,
-        (_, 0) => 0x00,
+    match (place / FIELD, place % FIELD) {
+        (0, 0) => PROMISE_TAG,
+        (_, 0) => FREE_TAG,
         (_, 1) => 4,
         _ => 0,
     }
@@ -29,7 +30,8 @@ pub fn write_fresh(bytes: &mut [u8], bills: u16) -> Result<(), DrawerFault>
     ensures fresh { MatchResult result (λ _. HoldsFresh bytes.new bills) (λ _. bytes.new ≡ bytes.old) }
 {
     check_size(bytes.len(), bills)?;
-    let section = 7 * (bills as usize + 1);
+    let section = FIELD * (bills as usize + 1);
+    // Byte by byte, and not field by field, as std says nothing of what the bytes hold after `chunks_exact_mut`.
     for (place, byte) in bytes.iter_mut().enumerate() {
         *byte = fresh_byte(place % section);
     }

@@ -10,7 +10,7 @@ use crate::section::{Section, read_section};
 use crate::size::check_size;
 
 // The refusal of a promise that has no free field, by its field.
-fn check_promise(section: Section, first: usize) -> Result<(), DrawerFault>
+fn check_covered(section: Section, first: usize) -> Result<(), DrawerFault>
     requires { first < 2 ^ 32 }
     ensures { result ≡ refused_at (unless (covered section) first) }
 {
@@ -31,13 +31,14 @@ fn check_fields(bytes: &[u8], bills: usize) -> Result<(), DrawerFault>
     for (head, section) in fields_of(bytes).chunks_exact(bills + 1).enumerate() {
         let first = (bills + 1) * head;
         let section = read_section(section, first)?;
-        covered = covered.and(check_promise(section, first));
+        covered = covered.and(check_covered(section, first));
     }
     covered
 }
 
 // Whether bytes are a drawer with this number of fields for bills in each section. The two go as arguments, and not
-// as a struct of both: a drawer, its maker and whoever makes calls on one hold the bytes as `&mut`.
+// as a struct of both, as it would take two structs, one of `&` and one of `&mut`: a drawer, its maker and whoever
+// makes calls on one hold the bytes as `&mut`.
 pub fn check(bytes: &[u8], bills: u16) -> Result<(), DrawerFault>
     ensures answer { result ≡ checked bytes.now bills }
     ensures judged { Judged bytes.now bills result }

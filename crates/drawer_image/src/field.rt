@@ -4,11 +4,9 @@ ghost use Rattle.drawer_image.specs.declared.fault.DrawerFault.TheVariants.{BadF
 ghost use Rattle.drawer_image.specs.Fields.{field_at, AreFields};
 
 use crate::fault::DrawerFault;
+use crate::{FIELD, FREE_TAG, PROMISE_TAG, SETTLED_TAG};
 use ledger::MOST_AMOUNT;
 use number::Number;
-
-// How many bytes a field has.
-pub const FIELD: usize = 7;
 
 // What the bytes of a field say: a promise, of an amount or of none, a settled bill, or that it is free for one.
 #[derive(Clone, Copy)]
@@ -33,10 +31,10 @@ impl Field {
             return None;
         }
         match tag {
-            0x50 if amount == 0 => Some(Field::Promise(None)),
-            0x50 => Some(Field::Promise(Some(amount))),
-            0x43 if amount > 0 => Some(Field::Settled(amount)),
-            0x00 if amount == 0 => Some(Field::Free),
+            PROMISE_TAG if amount == 0 => Some(Field::Promise(None)),
+            PROMISE_TAG => Some(Field::Promise(Some(amount))),
+            SETTLED_TAG if amount > 0 => Some(Field::Settled(amount)),
+            FREE_TAG if amount == 0 => Some(Field::Free),
             _ => None,
         }
     }

@@ -5,8 +5,9 @@ ghost use Rattle.drawer_image.specs.Fields.{AreFields};
 ghost use Rattle.drawer_image.specs.Sections.{bad_in, section_of, read_of, covered, places_in};
 ghost use Rattle.drawer_image.specs.Checks.{section_at, empty_section};
 
+use crate::FIELD;
 use crate::fault::DrawerFault;
-use crate::field::{FIELD, Field, bad_field, fields_of};
+use crate::field::{Field, bad_field, fields_of};
 use crate::size::check_size;
 
 // What a section says: the promised amount, the sum of its settled bills, and how many of its fields are free.

@@ -12,6 +12,6 @@ loop-head-init c = c.new-text.ensures.bytes ∙ sym (lines_none (bytes_held c.ar
 pub loop-head-preserved : goal.loop-head-preserved
 loop-head-preserved c =
     let line : HeadLine → List ℕ = λ l. ended (head_text l.head (unwrap_or l.promised 0) l.credited l.places) in
-    c.in_ok-push_str.ensures.bytes
-    ∙ ap₂ (λ x y. x ++ y) c.loop-head.invariant (c.as_str.ensures.value ∙ c.in_ok-line.ensures.ok ∙ ap line c.head_line-line.ensures)
+    c.in_ok-writeln.ensures.bytes
+    ∙ ap₂ (λ x y. x ++ y) c.loop-head.invariant (ap line c.head_line-line.ensures)
     ∙ sym (lines_more (bytes_held c.args.image.now c.args.bills) c.loop-head.head)

@@ -112,7 +112,7 @@ loop-head-preserved c =
       good = ap (earliest (bad_of bs k)) at.2 ∙ earliest_more (bad_of bs k) h ∙ ap₂ option_or inv.good got.0;
       told =
           c.and-covered.ensures
-          ∙ ap (λ r. result_and {U = Unit {0}} c.loop-head.covered r) (c.check_promise.ensures ∙ ap (λ n. refused_at (unless (covered c.in_ok-section.section) ((k + 1) * n))) at.1)
+          ∙ ap (λ r. result_and {U = Unit {0}} c.loop-head.covered r) (c.check_covered.ensures ∙ ap (λ n. refused_at (unless (covered c.in_ok-section.section) ((k + 1) * n))) at.1)
           ∙ added bs k h c.in_ok-section.section got.1 c.loop-head.covered inv.told ∙ ap (λ n. refused_at (earliest (uncovered_of bs k) n)) (sym at.2);
     }
 
