@@ -38,6 +38,7 @@ fn refusal(message: Message) -> Option<StatusFault>
 #[derive(Clone, Copy)]
 struct Refused(Option<StatusFault>);
 
+// Written out, since the clause of `describe_heard` relies on what it prints, its `ghost output`.
 impl fmt::Display for Refused {
     ghost output = { λ x. Some (refused_text x.0) };
 

@@ -6,15 +6,15 @@ use thiserror::Error;
 
 #[derive(Clone, Copy, Debug, PartialEq, Eq, Error)]
 pub enum FrameFault {
-    #[error("1: fewer than 5 bytes are left")]
+    #[error("{}: fewer than 5 bytes are left", self.number())]
     TooShort = 1,
-    #[error("2: the byte is not FC")]
+    #[error("{}: the byte is not FC", self.number())]
     NoSync = 2,
-    #[error("3: the length byte is under 5")]
+    #[error("{}: the length byte is under 5", self.number())]
     BadLength = 3,
-    #[error("4: fewer bytes are left than the length byte counts")]
+    #[error("{}: fewer bytes are left than the length byte counts", self.number())]
     Incomplete = 4,
-    #[error("5: the check differs")]
+    #[error("{}: the check differs", self.number())]
     CheckDiffers = 5,
 }
 
@@ -28,9 +28,9 @@ impl Numbered for FrameFault {
 
 #[derive(Clone, Copy, Debug, PartialEq, Eq, Error)]
 pub enum WriteFault {
-    #[error("6: there are more than 250 data bytes")]
+    #[error("{}: there are more than 250 data bytes", self.number())]
     DataTooLong = 6,
-    #[error("7: the buffer is too short for the frame")]
+    #[error("{}: the buffer is too short for the frame", self.number())]
     BufferTooShort = 7,
 }
 

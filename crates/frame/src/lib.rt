@@ -18,7 +18,7 @@ pub const MOST_DATA: usize = 250;
 const OVERHEAD: usize = 5;
 
 // A frame that was read: its command byte, and its data as a part of the bytes that it was read from.
-#[derive(Clone, Copy)]
+#[derive(Clone, Copy, Debug, PartialEq, Eq)]
 pub struct Frame<'a> {
     pub command: u8,
     pub data: &'a [u8],
@@ -61,6 +61,10 @@ pub fn read<'a>(bytes: &'a [u8], place: usize) -> Result<Frame<'a>, FrameFault>
 }
 
 // Writes a frame to the start of the buffer, whose rest stays, and tells its length.
+//
+// There is no heap, so a frame goes into the caller's buffer: the length says how much of it the frame takes, and the
+// clauses speak of the whole buffer. Command and data come apart, since most callers have them so, as a constant
+// and an empty slice.
 pub fn write(command: u8, data: &[u8], buffer: &mut [u8]) -> Result<usize, WriteFault>
     ensures answer { result ≡ write_answer «data».now (length buffer.old) }
     ensures after { buffer.new ≡ buffer_after (content command «data».now) buffer.old result }

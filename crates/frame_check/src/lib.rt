@@ -17,7 +17,8 @@ fn step(register: u16, byte: u8) -> u16
     u16::from(high) ^ entry(low)
 }
 
-// The check of the bytes: what a frame carries of all bytes before it.
+// The check of the bytes: what a frame carries of all bytes before it. It is this loop over the bytes, folding the
+// register, as docs/FRAMES.md tells it.
 pub fn check(bytes: &[u8]) -> u16
     ensures { result ≡ check_of bytes.now }
 {

@@ -1,4 +1,7 @@
 // A reply, written as a frame.
+//
+// There is no heap, so the frame goes into the caller's buffer, and its length tells how much of that it takes. Both
+// functions require room for two data bytes: a reply has no more, and `receive` has tested the room.
 ghost use Rattle.std.specs.Prelude.{◌≡◌, ◌≤◌, length, Some};
 ghost use Rattle.frame.specs.Frames.{content};
 ghost use Rattle.message.specs.Kinds.{message_content};

@@ -30,6 +30,7 @@ pub(crate) enum Command {
 }
 
 impl Command {
+    // The command byte and the data come apart, as the one match over both wants them.
     pub(crate) fn read(code: u8, data: &[u8]) -> Command
         ensures { result ≡ command_of (content code «data».now) }
     {

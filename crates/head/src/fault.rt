@@ -9,7 +9,7 @@ use thiserror::Error;
 
 #[derive(Clone, Copy, Debug, PartialEq, Eq, Error)]
 pub enum MoveFault {
-    #[error("20: the head does not move there from its phase")]
+    #[error("{}: the head does not move there from its phase", self.number())]
     NotListed = 20,
 }
 
@@ -23,7 +23,7 @@ impl Numbered for MoveFault {
 
 #[derive(Clone, Copy, Debug, PartialEq, Eq, Error)]
 pub enum ReceiveFault {
-    #[error("7: the buffer is too short for a head's answer")]
+    #[error("{}: the buffer is too short for a head's answer", self.number())]
     BufferTooShort = 7,
 }
 

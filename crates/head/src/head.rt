@@ -1,6 +1,7 @@
-// The head: its phase and its inhibit bit, what it does by itself and what it does on a command. Each table is one
-// match over the head's own phase and the move or the command, which changes the head in place: it is checked by eye
-// against the tables of docs/HEAD.md.
+// The head: its phase and its inhibit bit, what it does by itself and what it does on a command.
+//
+// The head matches its own phase and the move or the command together, and each arm changes it in place, so that
+// each arm is a row of docs/HEAD.md, or rows that say the same: the tables are checked by eye against that page.
 ghost use Rattle.std.specs.Prelude.{◌≡◌};
 ghost use Rattle.head.specs.Commands.{obeyed};
 ghost use Rattle.head.specs.Answers.{buffer_receiving, head_receiving, receive_answer};

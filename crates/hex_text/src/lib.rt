@@ -14,6 +14,8 @@ pub enum HexFault {
     NoMemory,
 }
 
+// The two conversions are written out, since the clauses of `parse` name the error that `?` makes: a derived one
+// promises nothing of it.
 impl From<AllocError> for HexFault {
     ghost from_gives = { λ _ r. r ≡ NoMemory };
 
@@ -30,7 +32,7 @@ impl<T: Drop> From<AllocFailed<T>> for HexFault {
     }
 }
 
-// The number that an uppercase digit stands for.
+// The number that an uppercase digit stands for. The standard library's `to_digit(16)` takes small letters too.
 fn digit_value(letter: u8) -> Option<u8>
     ensures { DigitOf letter result }
 {
@@ -70,6 +72,7 @@ pub fn parse(heap: Global, line: &[u8]) -> Result<Vec<u8>, HexFault>
 #[derive(Clone, Copy, Debug)]
 pub struct Blanked<'a>(pub &'a [u8]);
 
+// Written out, since the clause of `spell_blanked` relies on what it prints, its `ghost output`.
 impl fmt::Display for Blanked<'_> {
     ghost output = { λ x. Some (blanked x.0.now) };
 

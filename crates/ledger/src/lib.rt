@@ -59,7 +59,7 @@ impl Numbered for LedgerFault {
 // Why fourteen starts are refused.
 #[derive(Clone, Copy, Debug, PartialEq, Eq, Error)]
 pub enum StartFault {
-    #[error("26: a start is above 4,000")]
+    #[error("{}: a start is above 4,000", self.number())]
     AboveMost = 26,
 }
 

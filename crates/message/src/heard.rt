@@ -9,7 +9,7 @@ use crate::kind::Message;
 use frame::FrameFault;
 
 // A message, and the place in the received bytes where its frame begins.
-#[derive(Clone, Copy)]
+#[derive(Clone, Copy, Debug, PartialEq, Eq)]
 pub struct Heard<'a> {
     pub place: usize,
     pub message: Message<'a>,

@@ -7,7 +7,7 @@ use frame::Frame;
 use number::Number;
 
 // Each kind with its code, and with its data as a part of the received bytes.
-#[derive(Clone, Copy)]
+#[derive(Clone, Copy, Debug, PartialEq, Eq)]
 pub enum Message<'a> {
     Status(StatusCode, &'a [u8]),
     Acknowledgement(Number<0x50>, &'a [u8]),

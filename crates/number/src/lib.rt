@@ -21,6 +21,7 @@ impl<const N: u8> Number<N> {
     }
 }
 
+// Written out, since its `ghost output` tells clauses what is printed; a derive promises nothing of that.
 impl<const N: u8> fmt::Display for Number<N> {
     ghost output = { λ _. Some (decimal N) };
 

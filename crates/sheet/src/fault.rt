@@ -6,7 +6,7 @@ use thiserror::Error;
 
 #[derive(Clone, Copy, Debug, PartialEq, Eq, Error)]
 pub enum SheetFault {
-    #[error("14: the sheet's limit, an exponent or a value without a mantissa is wrong")]
+    #[error("{}: the sheet's limit, an exponent or a value without a mantissa is wrong", self.number())]
     SheetWrong = 14,
 }
 

@@ -41,11 +41,11 @@ impl Status {
 // Why a message is no status. The numbers are part of the interface.
 #[derive(Clone, Copy, Debug, PartialEq, Eq, Error)]
 pub enum StatusFault {
-    #[error("8: the code is no status")]
+    #[error("{}: the code is no status", self.number())]
     UnknownCode = 8,
-    #[error("9: the status has another number of data bytes")]
+    #[error("{}: the status has another number of data bytes", self.number())]
     WrongDataCount = 9,
-    #[error("10: the head answers that it could not take what was sent")]
+    #[error("{}: the head answers that it could not take what was sent", self.number())]
     Complaint = 10,
 }
 

@@ -1,52 +1,62 @@
-// What the faults of the line print: the number of the interface, and a sentence.
+// What the faults of the line tell: the number of the interface, and a sentence.
 use codes::UnknownCode;
 use frame::{FrameFault, WriteFault};
+use number::Numbered;
 use status::StatusFault;
 use std::alloc::Global;
 use std::fmt::Display;
 use std::process::Abort;
 use std::test::Fail;
 
-// Each value prints its text.
-fn all_print<T: Display>(rt: &impl Abort, heap: Global, cases: &[(T, &str)]) -> Result<(), Fail> {
-    for (value, text) in cases {
-        let printed = format!(in heap; "{value}")?;
-        assert_eq!(rt; printed.as_str(), *text);
+// Each fault tells its number, and prints the number and its sentence.
+fn tells<F: Numbered + Display>(
+    rt: &impl Abort,
+    heap: Global,
+    cases: &[(F, u8, &str)],
+) -> Result<(), Fail> {
+    for (fault, number, sentence) in cases {
+        assert_eq!(rt; fault.number(), *number);
+        let printed = format!(in heap; "{fault}")?;
+        let wanted = format!(in heap; "{number}: {sentence}")?;
+        assert_eq!(rt; printed.as_str(), wanted.as_str());
     }
     Ok(())
 }
 
 #[test]
 fn reading_faults_print_number_and_sentence(rt: HostRuntime) -> Result<(), Fail> {
-    all_print(
+    tells(
         &rt,
         rt.alloc(),
         &[
-            (FrameFault::TooShort, "1: fewer than 5 bytes are left"),
-            (FrameFault::NoSync, "2: the byte is not FC"),
-            (FrameFault::BadLength, "3: the length byte is under 5"),
+            (FrameFault::TooShort, 1, "fewer than 5 bytes are left"),
+            (FrameFault::NoSync, 2, "the byte is not FC"),
+            (FrameFault::BadLength, 3, "the length byte is under 5"),
             (
                 FrameFault::Incomplete,
-                "4: fewer bytes are left than the length byte counts",
+                4,
+                "fewer bytes are left than the length byte counts",
             ),
-            (FrameFault::CheckDiffers, "5: the check differs"),
+            (FrameFault::CheckDiffers, 5, "the check differs"),
         ],
     )
 }
 
 #[test]
 fn writing_faults_print_number_and_sentence(rt: HostRuntime) -> Result<(), Fail> {
-    all_print(
+    tells(
         &rt,
         rt.alloc(),
         &[
             (
                 WriteFault::DataTooLong,
-                "6: there are more than 250 data bytes",
+                6,
+                "there are more than 250 data bytes",
             ),
             (
                 WriteFault::BufferTooShort,
-                "7: the buffer is too short for the frame",
+                7,
+                "the buffer is too short for the frame",
             ),
         ],
     )
@@ -54,18 +64,20 @@ fn writing_faults_print_number_and_sentence(rt: HostRuntime) -> Result<(), Fail>
 
 #[test]
 fn status_faults_print_number_and_sentence(rt: HostRuntime) -> Result<(), Fail> {
-    all_print(
+    tells(
         &rt,
         rt.alloc(),
         &[
-            (StatusFault::UnknownCode, "8: the code is no status"),
+            (StatusFault::UnknownCode, 8, "the code is no status"),
             (
                 StatusFault::WrongDataCount,
-                "9: the status has another number of data bytes",
+                9,
+                "the status has another number of data bytes",
             ),
             (
                 StatusFault::Complaint,
-                "10: the head answers that it could not take what was sent",
+                10,
+                "the head answers that it could not take what was sent",
             ),
         ],
     )
@@ -73,9 +85,7 @@ fn status_faults_print_number_and_sentence(rt: HostRuntime) -> Result<(), Fail> 
 
 #[test]
 fn an_unknown_code_prints_its_byte(rt: HostRuntime) -> Result<(), Fail> {
-    all_print(
-        &rt,
-        rt.alloc(),
-        &[(UnknownCode(0x0a), "0A is no code of this kind")],
-    )
+    let printed = format!(in rt.alloc(); "{}", UnknownCode(0x0a))?;
+    assert_eq!(rt; printed.as_str(), "0A is no code of this kind");
+    Ok(())
 }
