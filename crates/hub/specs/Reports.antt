@@ -6,6 +6,7 @@
 --   check of s p bs           whether the report with the pass p and the received bytes bs is accepted, and for which head:
 --                             else 18 or 19; `of` is first_of for a first report, also one with a power cut inside, and second_of for a
 --                             second
+--   head_accepted r           what accepting a report answers, without the pass that comes with the head
 --   first_check s p bs room   the same of a first report with a buffer of this length: 18, 19 or 7
 --   first_reaction s h bs     the reaction to the received bytes for head h; reaction_in u m the same of its setup u and the
 --                             status m
@@ -90,6 +91,11 @@ handed (Some h) p bs = cond (nat_lt 512 (length bs)) (Err (report.TooMuchReceive
 
 abbrev pub check : {R : Type 0} → (Slot → Option ℕ) → HubState → Pass R → List ℕ → Result ℕ (ReportRefusal R)
 check of s p bs = handed (awaited_by of s p.count) p bs
+
+-- the head of a report that was accepted, without its pass
+abbrev pub head_accepted : {P E : Type 0} → Result (ℕ × P) E → Result ℕ E
+head_accepted (Ok accepted) = Ok accepted.0
+head_accepted (Err refusal) = Err refusal
 
 -- THE FIRST REPORT
 

@@ -1,7 +1,6 @@
 // Which reports the hub accepts, and what becomes of their passes.
 ghost use Rattle.std.specs.Prelude.{◌≡◌, IfOk};
-ghost use Rattle.std.specs.Result.{result_map_both};
-ghost use Rattle.hub.specs.Reports.{check, first_check};
+ghost use Rattle.hub.specs.Reports.{check, first_check, head_accepted};
 ghost use Rattle.hub.specs.States.{awaited_by};
 
 use crate::pass::{FirstPass, Pass, Report};
@@ -33,7 +32,7 @@ impl State {
         pass: Pass<R>,
         received: &[u8],
     ) -> Result<(u8, Pass<R>), ReportRefusal<R>>
-        ensures answer { result_map_both (λ accepted. accepted.0) (λ refusal. refusal) result ≡ check R.awaited self.now pass received.now }
+        ensures answer { head_accepted result ≡ check R.awaited self.now pass received.now }
         ensures pass { IfOk result (λ accepted. accepted.1 ≡ pass) }
     {
         let Some(head) = self.awaited(&pass) else {
@@ -53,7 +52,7 @@ impl State {
         received: &[u8],
         room: usize,
     ) -> Result<(u8, FirstPass), FirstRefusal>
-        ensures answer { result_map_both (λ accepted. accepted.0) (λ refusal. refusal) result ≡ first_check self.now pass received.now room }
+        ensures answer { head_accepted result ≡ first_check self.now pass received.now room }
         ensures pass { IfOk result (λ accepted. accepted.1 ≡ pass) }
     {
         let (head, pass) = self.accept(pass, received)?;

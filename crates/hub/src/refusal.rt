@@ -11,6 +11,7 @@ use std::fmt;
 use thiserror::Error;
 use turns::fault::{AdmissionFault, DismissalFault};
 
+// Each call has an enum of its own, here and below: it can refuse with nothing else, and the definition shows every number.
 #[derive(Clone, Copy, Debug, PartialEq, Eq, Error)]
 pub enum AdmissionRefusal {
     #[error("{}: a slot is open", self.number())]
@@ -34,6 +35,7 @@ impl Numbered for AdmissionRefusal {
     }
 }
 
+// By hand, here and below: clauses name the error that `?` makes, and of a derived `From` they would know nothing.
 impl From<AdmissionFault> for AdmissionRefusal {
     ghost from_gives = { λ f r. r ≡ admission_refusal f };
 
@@ -145,7 +147,8 @@ impl<R: Report> fmt::Display for ReportRefusal<R> {
     }
 }
 
-// A first report refused. With 18 the pass is spent; else it comes back.
+// A first report refused. With 18 the pass is spent; else it comes back. Two cases are those of any report, but its own, so
+// that this definition shows each number that a first report is refused with, and what comes with it.
 #[derive(Debug)]
 pub enum FirstRefusal {
     // The hub awaits no first report with this pass's count.

@@ -4,7 +4,6 @@ ghost use Rattle.std.specs.Option.{option_map};
 ghost use Rattle.message.specs.Kinds.{message_content};
 ghost use Rattle.reaction.specs.Frames.{frame_content, sent_setting, written};
 ghost use Rattle.reaction.specs.Reactions.{no_reaction, setup_after};
-ghost use Rattle.reaction.specs.Setups.{setting_if, setup_hearing};
 ghost use Rattle.hub.specs.Reports.{after_hearing, after_reply, length_of, reaction_in, sends_setting, sent_by, sent_in, status_read};
 ghost use Rattle.hub.specs.States.{setup_of};
 
@@ -44,24 +43,14 @@ fn setup_after(setup: Setup, reaction: &Reaction) -> Setup
     }
 }
 
-// The echo of a setting that was just sent confirms it.
-fn setup_hearing<'a>(setup: Option<Setup>, sent: bool, said: Option<Message<'a>>) -> Option<Setup>
-    ensures { result ≡ option_map (λ u. setup_hearing (setting_if sent u) (option_map message_content said.entry) u) setup }
-{
-    let mut setup = setup?;
-    if sent {
-        setup.hear(said);
-    }
-    Some(setup)
-}
-
-// Writes a second frame, if there is one, to the start of a buffer that has room for the longest, and tells its length, 0
-// for none.
+// Writes a second frame, if there is one, to the start of a buffer, and tells its length: 0 for none, so that whoever puts
+// that many bytes of the buffer on the line puts none. The caller has refused with 7 a buffer without room for the longest.
 pub(crate) fn write_frame(frame: &Option<SecondFrame>, buffer: &mut [u8]) -> usize
     requires { 7 ≤ length buffer.old }
     ensures long { result ≡ length_of (frame_content frame.now) }
     ensures after { buffer.new ≡ (written (frame_content frame.now) buffer.old).0 }
 {
+    // No `map_or`: of a buffer that a closure changes nothing would be known afterwards.
     match frame {
         Some(frame) => frame.write(buffer).unwrap(),
         None => 0,
@@ -122,7 +111,13 @@ impl State {
     pub(crate) fn hear_second<'a>(&mut self, head: u8, said: Option<Message<'a>>)
         ensures { self.new ≡ after_hearing self.old head (option_map message_content said.entry) }
     {
-        let setup = setup_hearing(self.setup(head), self.setting_sent(), said);
+        let mut setup = self.setup(head);
+        // The echo of a setting that was just sent confirms it.
+        if self.setting_sent()
+            && let Some(setup) = &mut setup
+        {
+            setup.hear(said);
+        }
         put_setup(&mut self.setups, head, setup);
         self.slot = Slot::Closed;
     }

@@ -19,6 +19,7 @@ pub enum ReportFault {
     Head(HeadFault),
 }
 
+// By hand, here and below: clauses name the error that `?` makes, and of a derived `From` they would know nothing.
 impl From<StatusFault> for ReportFault {
     ghost from_gives = { λ f r. r ≡ reported.Status f };
 

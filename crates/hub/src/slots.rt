@@ -29,7 +29,7 @@ impl State {
             return Err(OpeningRefusal::BufferTooShort);
         }
         let head = self.turns.serve(wish).ok_or(OpeningRefusal::NoHead)?;
-        let _ = frame::write(POLL, &[], buffer);
+        frame::write(POLL, &[], buffer).unwrap();
         self.slot = Slot::First(head);
         self.count = self.count.wrapping_add(1);
         Ok(Opening {

@@ -21,7 +21,8 @@ pub enum Slot {
 pub struct State {
     // Who is admitted, and whose turn it is.
     pub(crate) turns: TurnTable,
-    // The setup of each admitted head.
+    // The setup of each admitted head, by its number. It stands beside the turn table, which keeps an invariant of its own over
+    // its array of heads and knows nothing of sheets.
     pub(crate) setups: [Option<Setup>; HEADS],
     pub(crate) slot: Slot,
     // How many slots were opened, modulo 2^64.

@@ -1,53 +1,76 @@
-// What the refusals print.
+// What the refusals tell: number and sentence.
 use crate::slots::SHEET;
 use hub::{
     AdmissionRefusal, DismissalRefusal, FirstPass, FirstRefusal, FirstReport, Hub, Opening,
-    OpeningRefusal, Pass, Report, ReportRefusal,
+    OpeningRefusal, ReportRefusal,
 };
 use ledger::table::Table;
+use number::Numbered;
 use std::fmt;
 use std::process::Abort;
-use std::test::Fail;
+
+// Sees that a refusal has this number and prints this sentence.
+fn tells<R: Numbered + fmt::Display>(
+    rt: &(impl Abort + AllocGlobal),
+    refusal: &R,
+    number: u8,
+    sentence: &str,
+) {
+    assert_eq!(rt; refusal.number(), number);
+    let Ok(text) = refusal.to_string(rt.alloc()) else {
+        panic!(rt; "out of memory");
+    };
+    assert_eq!(rt; text.as_str(), sentence);
+}
 
 #[test]
-fn refusals_print_number_and_sentence(rt: HostRuntime) -> Result<(), Fail> {
-    let heap = rt.alloc();
+fn refusals_tell_number_and_sentence(rt: HostRuntime) {
     let admission = [
-        (AdmissionRefusal::SlotOpen, "11: a slot is open"),
-        (AdmissionRefusal::NumberOver13, "12: head number over 13"),
+        (AdmissionRefusal::SlotOpen, 11, "11: a slot is open"),
+        (
+            AdmissionRefusal::NumberOver13,
+            12,
+            "12: head number over 13",
+        ),
         (
             AdmissionRefusal::AdmittedAlready,
+            13,
             "13: head admitted already",
         ),
-        (AdmissionRefusal::SheetWrong, "14: the sheet is wrong"),
+        (AdmissionRefusal::SheetWrong, 14, "14: the sheet is wrong"),
         (
             AdmissionRefusal::Outnumbered,
+            15,
             "15: heads would outnumber a limit",
         ),
     ];
-    for (refusal, sentence) in admission {
-        assert_eq!(rt; refusal.to_string(heap)?.as_str(), sentence);
+    for (refusal, number, sentence) in admission {
+        tells(&rt, &refusal, number, sentence);
     }
     let dismissal = [
-        (DismissalRefusal::SlotOpen, "11: a slot is open"),
-        (DismissalRefusal::NumberOver13, "12: head number over 13"),
-        (DismissalRefusal::NotAdmitted, "16: head not admitted"),
+        (DismissalRefusal::SlotOpen, 11, "11: a slot is open"),
+        (
+            DismissalRefusal::NumberOver13,
+            12,
+            "12: head number over 13",
+        ),
+        (DismissalRefusal::NotAdmitted, 16, "16: head not admitted"),
     ];
-    for (refusal, sentence) in dismissal {
-        assert_eq!(rt; refusal.to_string(heap)?.as_str(), sentence);
+    for (refusal, number, sentence) in dismissal {
+        tells(&rt, &refusal, number, sentence);
     }
     let opening = [
-        (OpeningRefusal::SlotOpen, "11: a slot is open"),
-        (OpeningRefusal::NoHead, "17: no head is admitted"),
+        (OpeningRefusal::SlotOpen, 11, "11: a slot is open"),
+        (OpeningRefusal::NoHead, 17, "17: no head is admitted"),
         (
             OpeningRefusal::BufferTooShort,
+            7,
             "7: the buffer is too short for the poll",
         ),
     ];
-    for (refusal, sentence) in opening {
-        assert_eq!(rt; refusal.to_string(heap)?.as_str(), sentence);
+    for (refusal, number, sentence) in opening {
+        tells(&rt, &refusal, number, sentence);
     }
-    Ok(())
 }
 
 // Opens a slot for head 0.
@@ -58,47 +81,19 @@ fn opened(rt: &impl Abort, hub: &mut Hub<Table>, buffer: &mut [u8]) -> FirstPass
     }
 }
 
-// Sees that a refusal prints this sentence.
-fn prints(rt: &(impl Abort + AllocGlobal), refusal: &impl fmt::Display, sentence: &str) {
-    let Ok(text) = refusal.to_string(rt.alloc()) else {
-        panic!(rt; "out of memory");
-    };
-    assert_eq!(rt; text.as_str(), sentence);
-}
-
-// A first report that is refused so, and its pass, if it comes back.
-fn first_refused<'a>(
+// The refusal of a report, which tells this number and this sentence.
+fn refused<T, R: Numbered + fmt::Display>(
     rt: &(impl Abort + AllocGlobal),
-    answer: Result<FirstReport<'a>, FirstRefusal>,
+    answer: Result<T, R>,
+    number: u8,
     sentence: &str,
-) -> Option<FirstPass> {
-    let refusal = match answer {
+) -> R {
+    match answer {
         Ok(_) => panic!(rt; "the report is accepted"),
-        Err(refusal) => refusal,
-    };
-    prints(rt, &refusal, sentence);
-    match refusal {
-        FirstRefusal::NoSuchSlot(_) => None,
-        FirstRefusal::TooMuchReceived(_, pass) | FirstRefusal::BufferTooShort(_, pass) => Some(
-            pass,
-        ),
-    }
-}
-
-// The same of another report.
-fn refused<T, R: Report>(
-    rt: &(impl Abort + AllocGlobal),
-    answer: Result<T, ReportRefusal<R>>,
-    sentence: &str,
-) -> Option<Pass<R>> {
-    let refusal = match answer {
-        Ok(_) => panic!(rt; "the report is accepted"),
-        Err(refusal) => refusal,
-    };
-    prints(rt, &refusal, sentence);
-    match refusal {
-        ReportRefusal::NoSuchSlot(_) => None,
-        ReportRefusal::TooMuchReceived(_, pass) => Some(pass),
+        Err(refusal) => {
+            tells(rt, &refusal, number, sentence);
+            refusal
+        }
     }
 }
 
@@ -112,23 +107,27 @@ const STALE_SECOND: &str = "18: no second report is awaited with this pass";
 
 // With 19 and 7 the pass comes back, and with 18 it does not.
 #[test]
-fn refused_reports_print_number_and_sentence(rt: HostRuntime) {
+fn refused_reports_tell_number_and_sentence(rt: HostRuntime) {
     let mut hub = Hub::new(Table::new([4; 14]));
     assert_eq!(rt; hub.admit(0, &SHEET), Ok(()));
     let mut buffer = [0; 16];
     let pass = opened(&rt, &mut hub, &mut buffer);
-    let Some(pass) = first_refused(
+    let refusal = refused(
         &rt,
         hub.first_report(pass, &[0; 513], &mut buffer),
+        19,
         TOO_MUCH,
-    ) else {
-        panic!(rt; "the pass is spent");
+    );
+    let FirstRefusal::TooMuchReceived(_, pass) = refusal else {
+        panic!(rt; "the refusal is another");
     };
-    let Some(pass) = first_refused(&rt, hub.first_report(pass, &[], &mut [0; 6]), TOO_SHORT) else {
-        panic!(rt; "the pass is spent");
+    let refusal = refused(&rt, hub.first_report(pass, &[], &mut [0; 6]), 7, TOO_SHORT);
+    let FirstRefusal::BufferTooShort(_, pass) = refusal else {
+        panic!(rt; "the refusal is another");
     };
-    let Some(pass) = refused(&rt, hub.cut_first_report(pass, &[0; 513], 0), TOO_MUCH) else {
-        panic!(rt; "the pass is spent");
+    let refusal = refused(&rt, hub.cut_first_report(pass, &[0; 513], 0), 19, TOO_MUCH);
+    let ReportRefusal::TooMuchReceived(_, pass) = refusal else {
+        panic!(rt; "the refusal is another");
     };
     let pass = match hub.first_report(pass, &[], &mut buffer) {
         Ok(
@@ -141,26 +140,27 @@ fn refused_reports_print_number_and_sentence(rt: HostRuntime) {
         ) => pass,
         Err(refusal) => panic!(rt; "{refusal}"),
     };
-    let Some(pass) = refused(&rt, hub.second_report(pass, &[0; 513]), TOO_MUCH) else {
-        panic!(rt; "the pass is spent");
+    let refusal = refused(&rt, hub.second_report(pass, &[0; 513]), 19, TOO_MUCH);
+    let ReportRefusal::TooMuchReceived(_, pass) = refusal else {
+        panic!(rt; "the refusal is another");
     };
     hub.restart();
-    match refused(&rt, hub.second_report(pass, &[]), STALE_SECOND) {
-        None => {}
-        Some(_) => panic!(rt; "the pass comes back"),
-    }
+    let refusal = refused(&rt, hub.second_report(pass, &[]), 18, STALE_SECOND);
+    let ReportRefusal::NoSuchSlot(_) = refusal else {
+        panic!(rt; "the refusal is another");
+    };
     assert_eq!(rt; hub.admit(0, &SHEET), Ok(()));
     let pass = opened(&rt, &mut hub, &mut buffer);
     hub.restart();
-    match first_refused(&rt, hub.first_report(pass, &[], &mut buffer), STALE) {
-        None => {}
-        Some(_) => panic!(rt; "the pass comes back"),
-    }
+    let refusal = refused(&rt, hub.first_report(pass, &[], &mut buffer), 18, STALE);
+    let FirstRefusal::NoSuchSlot(_) = refusal else {
+        panic!(rt; "the refusal is another");
+    };
     assert_eq!(rt; hub.admit(0, &SHEET), Ok(()));
     let pass = opened(&rt, &mut hub, &mut buffer);
     hub.restart();
-    match refused(&rt, hub.cut_first_report(pass, &[], 0), STALE) {
-        None => {}
-        Some(_) => panic!(rt; "the pass comes back"),
-    }
+    let refusal = refused(&rt, hub.cut_first_report(pass, &[], 0), 18, STALE);
+    let ReportRefusal::NoSuchSlot(_) = refusal else {
+        panic!(rt; "the refusal is another");
+    };
 }
