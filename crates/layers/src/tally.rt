@@ -9,8 +9,9 @@ use crate::depth::one_deeper;
 use ledger::{HEADS, Ledger, LedgerFault, head_index};
 use number::Number;
 
-// What is tallied of a head: how many bills were settled, and the amount of the latest.
-#[derive(Clone, Copy)]
+// What is tallied of a head: how many bills were settled, and the amount of the latest. The amount is a plain number, 0
+// at first, as docs/LEDGERS.md promises it: the count beside it tells whether there was one.
+#[derive(Clone, Copy, Debug, PartialEq, Eq)]
 pub struct Tallied {
     count: u32,
     latest: u32,

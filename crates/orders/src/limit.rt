@@ -14,7 +14,7 @@ impl Limit {
     pub fn new(value: u8) -> Option<Limit>
         ensures { option_map (λ l. l.value) result ≡ checked_limit value }
     {
-        if value < 1 || value > 14 {
+        if !(1..=14).contains(&value) {
             return None;
         }
         Some(Limit { value })

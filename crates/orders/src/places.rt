@@ -78,6 +78,7 @@ pub fn after_slot(places: &Places, h: u8) -> Places
     ensures { result ≡ served places.now h }
 {
     let mut next = all_lowered(places);
+    // Read with `get`, then written at its index: of an array written through `get_mut` a proof knows no element.
     if let Some(place) = places.get(usize::from(h)) {
         next[usize::from(h)] = place.map(Turn::restored);
     }

@@ -1,7 +1,7 @@
 // An admitted head's turn.
 use super::limit::Limit;
 
-#[derive(Clone, Copy)]
+#[derive(Clone, Copy, Debug, PartialEq, Eq)]
 pub struct Turn {
     pub limit: Limit,
     // The limit less the slots opened since the head's last turn or its admission.
@@ -10,7 +10,7 @@ pub struct Turn {
 
 impl Turn {
     ghost use Rattle.std.specs.Prelude.{◌≡◌};
-    ghost use Rattle.orders.specs.Slots.{lowered, restored};
+    ghost use Rattle.orders.specs.Slots.{lowered_turn, restored_turn};
 
     // The turn of a head just admitted or just served.
     pub fn new(limit: Limit) -> Turn
@@ -24,7 +24,7 @@ impl Turn {
 
     // The turn after a slot for another head. A slack is never 0 here, since an order keeps every head within it.
     pub(crate) fn lowered(self) -> Turn
-        ensures { Some result ≡ lowered (Some self) }
+        ensures { result ≡ lowered_turn self }
     {
         Turn {
             limit: self.limit,
@@ -34,7 +34,7 @@ impl Turn {
 
     // The turn after a slot for the head itself.
     pub(crate) fn restored(self) -> Turn
-        ensures { Some result ≡ restored (Some self) }
+        ensures { result ≡ restored_turn self }
     {
         Turn::new(self.limit)
     }

@@ -22,6 +22,7 @@ pub enum HeadFault {
     Ledger(LedgerFault),
 }
 
+// By hand and not by the derive's `#[from]`, since the clauses of `perform` name the error that `?` makes.
 impl From<LedgerFault> for HeadFault {
     ghost from_gives = { λ f r. r ≡ Ledger f };
 

@@ -9,7 +9,8 @@ use ledger_calls::Call::{GiveBack, Settle};
 use status::Status;
 
 // The table of reactions, by the code of the status and what the bill in escrow is worth, if anything. The first
-// cause that applies returns the bill.
+// cause that applies returns the bill. The form is settled (docs/DECISIONS.md): one match over the codes of the status,
+// with ranges, and with guards on sheet and settings, so that each arm is a row of the table in docs/HUB.md.
 pub fn react(setup: &Setup, status: Status) -> Reaction
     ensures { result ≡ reaction_to setup.now (status_content status) }
 {
@@ -31,6 +32,7 @@ pub fn react(setup: &Setup, status: Status) -> Reaction
         (0x40 | 0x41, _) => (Some(GiveBack), Reply::Reset),
         (0x42, _) => (Some(Settle), Reply::Reset),
         (0x14 | 0x16 | 0x43..=0x49, _) => (None, Reply::Nothing),
+        // No other byte is a status' code.
         _ => (None, Reply::Nothing),
     };
     Reaction { ending, reply }

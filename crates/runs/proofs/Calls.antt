@@ -1,6 +1,7 @@
 -- What each ledger call of a first report does to the money of its head. Assumes nothing.
 use Rattle.std.proofs.Common.{◌≡◌, ℕ, ◌+◌, ◌<◌, true, List, [], ◌∷◌, is_ok, Some, None, Option, refl, arith}
 use Rattle.std.specs.List.{AllByRecursion}
+use Rattle.std.proofs.ByRecursion.{All-weaker}
 use Rattle.sheet.specs.declared.sheet.Draft.{Draft}
 use Rattle.ledger.specs.Held.{Held, Heads}
 use Rattle.ledger.specs.Answers.{end_answer}
@@ -13,7 +14,6 @@ use Rattle.reaction.specs.Calls.{called_all}
 use Rattle.runs.specs.declared.Allowance.{Allowance}
 use Rattle.runs.specs.Worlds.{Taken, Past, HeardSlot}
 use Rattle.runs.specs.Law.{is_among}
-use Rattle.runs.proofs.Basics.{every_map}
 use Rattle.runs.proofs.Classes.{Class}
 use Rattle.runs.proofs.Kept.{Settled, AllSettled, Owing, Agrees, Prompt, Calm, Boxed, Lies}
 use Rattle.runs.proofs.OwnMoves.{untaken_none}
@@ -51,7 +51,7 @@ grows b x xs h = grind arith
 -- settling what is owed
 owed_settled : (sheet : Option Draft) (v : Held) (a bill : ℕ) (credited : List ℕ) (taken : List Taken) → v.promised ≡ Some a → Owing sheet v bill credited taken → Settled sheet (v.credited + a) (bill ∷ credited) taken
 owed_settled sheet v a bill credited [] is h = absurd h
-owed_settled sheet v a bill credited (t ∷ ts) is h = record { sum = grind arith; all = grind (arith, every_map, grows) }
+owed_settled sheet v a bill credited (t ∷ ts) is h = record { sum = grind arith; all = grind (arith, All-weaker, grows) }
 
 module _ (sheet : Option Draft) (b : ℕ) (v v' : Held) (p : Past) where
   pub agrees_back : (C : Class) → v'.promised ≡ None → v'.credited ≡ v.credited → Calm C → Agrees C sheet b v p → Agrees C sheet b v' p
@@ -77,6 +77,6 @@ lies_calm l C c i b p h = grind arith
 
 pub prompt_settled : (h : ℕ) (p : Past) (heard : List HeardSlot) → AllByRecursion (Prompt h p) heard → AllByRecursion (Prompt h (settled_past p)) heard
 prompt_settled h p heard all =
-    every_map (Prompt h p) (Prompt h (settled_past p))
-    (λ s k here. every_map (λ t. t.slot < s.number → is_among t.bill p.credited ≡ true) (λ t. t.slot < s.number → is_among t.bill (p.promised ∷ p.credited) ≡ true) (λ t f lt. grows t.bill p.promised p.credited (f lt)) p.taken (k here))
+    All-weaker (Prompt h p) (Prompt h (settled_past p))
+    (λ s k here. All-weaker (λ t. t.slot < s.number → is_among t.bill p.credited ≡ true) (λ t. t.slot < s.number → is_among t.bill (p.promised ∷ p.credited) ≡ true) (λ t f lt. grows t.bill p.promised p.credited (f lt)) p.taken (k here))
     heard all

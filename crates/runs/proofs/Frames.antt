@@ -1,5 +1,6 @@
 -- What the frames of a slot do to a head keeps what is so of the money. Assumes nothing.
 use Rattle.std.proofs.Common.{◌≡◌, ℕ, true, List, is_some, None, Option, sym, subst, arith}
+use Rattle.std.proofs.ByRecursion.{All-weaker}
 use Rattle.frame.specs.Frames.{Content}
 use Rattle.sheet.specs.declared.sheet.Draft.{Draft}
 use Rattle.ledger.specs.Held.{Held}
@@ -7,7 +8,6 @@ use Rattle.head.specs.declared.phase.Phase.{Phase}
 use Rattle.runs.specs.declared.Allowance.{Allowance}
 use Rattle.runs.specs.declared.Allowance.TheVariants.{One}
 use Rattle.runs.specs.Worlds.{Past, HeardSlot}
-use Rattle.runs.proofs.Basics.{every_map}
 use Rattle.runs.proofs.Classes.{Class, class, boxed, stored, Order, Turns, phase_after, turns, setting_stays, tells}
 use Rattle.runs.proofs.Kept.{AllSettled, Agrees, Kept, Old, Heard, Awaits, Sent, ordered, setting}
 
@@ -29,7 +29,7 @@ module _ (sheet : Option Draft) (b : ℕ) (v : Held) (p : Past) where
 
   -- if all bills taken are credited, then those taken before a slot are
   pub settled_old : (n : ℕ) → AllSettled sheet v p → Old n p
-  settled_old n s = every_map _ _ (λ t h lt. h) p.taken s.all
+  settled_old n s = All-weaker _ _ (λ t h lt. h) p.taken s.all
 
   -- when the poll arrives, what the answer tells stands
   pub answer_stands : (n : ℕ) (q : Phase) → Agrees (class q) sheet b v p → Heard n One (tells q) b (class q) b p

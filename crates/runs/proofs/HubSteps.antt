@@ -1,13 +1,13 @@
 -- Every step keeps what a run keeps of the hub, so the law of turns stands at every moment of every run. Assumes nothing.
-use Rattle.std.proofs.Common.{◌≡◌, ℕ, zero, suc, ◌-◌, ◌<◌, ◌≤◌, Bool, true, false, cond, eqb, ltb, List, [], ◌∷◌, ◌++◌, map, length, get_or, set, replicate, is_some, is_ok, Some, None, Ok, Err, Option, Result, sym, refl, ap, ◌∙◌, subst, ⊎_elim, arith}
+use Rattle.std.proofs.Common.{◌≡◌, ℕ, ◌<◌, ◌≤◌, Bool, true, false, cond, eqb, ltb, List, [], ◌∷◌, ◌++◌, map, length, set, is_some, is_ok, Some, None, Ok, Err, Option, Result, sym, refl, ap, ◌∙◌, subst, ⊎_elim, arith}
 use Rattle.std.specs.Option.{option_map}
 use Rattle.std.proofs.lemmas.Bool.{ltb-false, eq-eqb, ne_eqb, cases_eq, cond-true, cond-false}
-use Rattle.std.proofs.lemmas.List.{get_or-set_same, get_or-set_other, length-set}
+use Rattle.std.proofs.lemmas.List.{get_or-set_other, length-set}
 use Rattle.frame.specs.Frames.{Content}
 use Rattle.orders.specs.Choice.{Chosen, chosen}
-use Rattle.orders.specs.Slots.{lowered, restored, after_slot}
+use Rattle.orders.specs.Slots.{lowered_turn, lowered, restored, after_slot}
 use Rattle.orders.specs.Tables.{Table, turn_of, is_admitted, is_empty, empty_table, without_head}
-use Rattle.orders.proofs.Changes.{inside, turn_lowered, some_with}
+use Rattle.orders.proofs.Changes.{inside, at_set, turn_lowered, some_mapped}
 use Rattle.orders.proofs.Choice.{chosen_right}
 use Rattle.orders.proofs.Counting.{counts_decide_orders_lem, turn_without, turn_others}
 use Rattle.orders.proofs.Keeps.{Keeps}
@@ -16,7 +16,7 @@ use Rattle.turns.specs.Calls as turns
 use Rattle.turns.specs.Runs.{after_call, slot_of}
 use Rattle.turns.specs.declared.fault.AdmissionFault.{AdmissionFault}
 use Rattle.turns.specs.declared.fault.DismissalFault.{DismissalFault}
-use Rattle.turns.proofs.Invariant.{not_in_empty}
+use Rattle.turns.proofs.Invariant.{none_replicated, not_in_empty}
 use Rattle.turns.proofs.Outcomes.{number_accepted, after_admission_lem, after_dismissal_lem}
 use Rattle.sheet.specs.Sheets.{draft_of, right_sheet, sheet_answer, told}
 use Rattle.sheet.specs.declared.fault.SheetFault.{SheetFault}
@@ -142,28 +142,15 @@ table_keeps t ms kept = subst Keeps (sym kept.table) (marks_keep ms kept.faithfu
 
 -- NO HEAD
 
-no_setup : (n h : ℕ) → get_or {A = Option Setup} (replicate n None) h None ≡ None
-no_setup zero h = refl
-no_setup (suc n) zero = refl
-no_setup (suc n) (suc h) = no_setup n h
-
 none_kept : (s : HubState) (sheets : ℕ → Option Draft) → HeadsKept (restarted s) sheets
 none_kept s sheets = record {
   places = refl;
   admitted = λ h in'. cc (sym (not_in_empty h) ∙ in');
   served = λ h is. cc;
-  known = λ h u is. cc (sym (no_setup 14 h) ∙ is);
+  known = λ h u is. cc (sym (none_replicated 14 h) ∙ is);
 }
 
 -- ONE HEAD
-
--- what holds of the new setup at its place, and of every other at its own, holds of every one
-at_set : (P : ℕ → Option Setup → Type 0) (us : List (Option Setup)) (n : ℕ) (u : Option Setup) → n < length us → P n u → ((h : ℕ) → (h ≡ n → ⊥) → P h (get_or us h None)) → (h : ℕ) → P h (get_or (set us n u) h None)
-at_set P us n u lt here others h =
-    ⊎_elim
-    (λ e. subst (λ k. P k (get_or (set us n u) k None)) (sym e) (subst (P n) (sym (get_or-set_same us n u None lt)) here))
-    (λ ne. subst (P h) (sym (get_or-set_other us n h u None ne)) (others h ne))
-    (cases_eq h n)
 
 admitted_kept : (s : HubState) (sheets : ℕ → Option Draft) (n : ℕ) (sheet : Sheet) (d : Draft) → HeadsKept s sheets → n ≤ 13 → draft_of sheet ≡ d → HeadsKept (with_head s n sheet) (put n (Some d) sheets)
 admitted_kept s sheets n sheet d kept low same =
@@ -220,7 +207,7 @@ admitted_before_slot t g h own in' =
     ⊎_elim
     (λ e. subst (λ k. is_admitted t k ≡ true) (sym e) own)
     (λ ne.
-    sym (some_with (λ turn. turn.slack - 1) (turn_of t h))
+    sym (some_mapped lowered_turn (turn_of t h))
     ∙ sym (ap is_some (get_or-set_other (map lowered t) g h (restored (turn_of t g)) None ne ∙ turn_lowered t h))
     ∙ in')
     (cases_eq h g)
@@ -239,10 +226,6 @@ opened_kept s sheets wish o kept keeps is =
     }
 
 -- REPORTS
-
-some_mapped : (f : Setup → Setup) (o : Option Setup) → is_some (option_map f o) ≡ is_some o
-some_mapped f None = refl
-some_mapped f (Some u) = refl
 
 -- a setup changed but for its sheet
 known_mapped : (f : Setup → Setup) → ((u : Setup) → (f u).sheet ≡ u.sheet) → (sheet : Option Draft) (o : Option Setup) → ((u : Setup) → o ≡ Some u → sheet ≡ Some (draft_of u.sheet)) → (v : Setup) → option_map f o ≡ Some v → sheet ≡ Some (draft_of v.sheet)

@@ -1,6 +1,7 @@
 -- Own moves keep what is so of the money. Assumes nothing.
 use Rattle.std.proofs.Common.{◌≡◌, ℕ, suc, ◌≤◌, Bool, true, false, cond, List, [], ◌∷◌, None, Option, refl, inl, inr, arith}
 use Rattle.std.specs.List.{AllByRecursion}
+use Rattle.std.proofs.ByRecursion.{All-weaker}
 use Rattle.frame.specs.Frames.{Content}
 use Rattle.sheet.specs.declared.sheet.Draft.{Draft}
 use Rattle.ledger.specs.Held.{Held}
@@ -9,7 +10,6 @@ use Rattle.runs.specs.declared.Allowance.TheVariants.{Free, One, Spent}
 use Rattle.runs.specs.Worlds.{Taken, Past, Line, still, poll, answer, second, replied, HeardSlot}
 use Rattle.runs.specs.Steps.{taking}
 use Rattle.runs.specs.Law.{is_taken}
-use Rattle.runs.proofs.Basics.{every_map}
 use Rattle.runs.proofs.Classes.{Class, Goes, stays, brought, refuses, ejects, takes, holds, forgets, again, Order, Told, tells}
 use Rattle.runs.proofs.Kept.{Untaken, Agrees, Priced, Prompt, Kept, Calm, Boxed, Lies, Old, Heard, Ready, Safe, Awaits, Sent, ordered, setting, OnLine}
 
@@ -47,7 +47,7 @@ module _ (sheet : Option Draft) (b n : ℕ) (v : Held) (p : Past) where
   past_after took c = taking took (record { bill = b; code = c; slot = n }) p
 
   below_moves : {C D : Class} {x y : Bool} {c : ℕ} → Goes C D x y c → AllByRecursion (λ t. t.bill ≤ b) p.taken → AllByRecursion (λ t. t.bill ≤ bill_after x) (past_after y c).taken
-  below_moves go h = grind (arith, every_map)
+  below_moves go h = grind (arith, All-weaker)
 
   priced_moves : {C D : Class} {x y : Bool} {c : ℕ} → Goes C D x y c → Agrees C sheet b v p → Priced sheet p.taken → Priced sheet (past_after y c).taken
   priced_moves go a h = grind arith

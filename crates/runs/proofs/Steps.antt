@@ -1,5 +1,6 @@
 -- Every step keeps what is so of the money. Assumes nothing.
 use Rattle.std.proofs.Common.{◌≡◌, ℕ, suc, ◌<◌, ◌≤◌, Bool, true, cond, eqb, List, ◌∷◌, take, is_some, Some, None, Ok, Err, Option, Result, sym, refl, ap, ◌∙◌, subst, subst₂, inl, inr, arith}
+use Rattle.std.proofs.ByRecursion.{All-weaker}
 use Rattle.frame.specs.Frames.{Content}
 use Rattle.sheet.specs.declared.fault.SheetFault.{SheetFault}
 use Rattle.sheet.specs.declared.sheet.Draft.{Draft}
@@ -30,7 +31,8 @@ use Rattle.runs.specs.declared.Allowance.{Allowance}
 use Rattle.runs.specs.declared.Allowance.TheVariants.{Free, One}
 use Rattle.runs.specs.Worlds.{Past, still, answer, second, HeardSlot, Mark, World}
 use Rattle.runs.specs.Steps.{Event, with_marks, with_past, memory_admitting, memory_dismissing, noted_all, bill_answered, heard_answer, bringing, taking, opened_world, sending, reported_world, ended_world, cut_world, answered_world, obeyed_world, moved_world, FairlyHeard, SameSheet, Allows, elsewhere, freely, once, Step, admits, dismisses, opens, reports, ends, cuts, restarts, poll_arrives, second_arrives, moves}
-use Rattle.runs.proofs.Basics.{every_map, same_some, some_of, at_eq}
+use Rattle.ledger.proofs.CallLaws.{some_of}
+use Rattle.runs.proofs.Basics.{same_some, at_eq}
 use Rattle.runs.proofs.HubInvariant.{HubKept}
 use Rattle.runs.proofs.Classes.{class, move_goes, tells, reacts}
 use Rattle.runs.proofs.Kept.{Kept, Heard, OnLine, KeptOf, LineOf, MoneyKept, MoneyKeptIn}
@@ -79,7 +81,7 @@ module _ (w : World) (hub : HubKept w) (inv : MoneyKeptIn w) where
   opened wish (Ok o) = record {
     kept = inv.kept;
     inside = λ h is. tt;
-    numbers = every_map (λ s. s.number ≤ w.memory.opened) (λ s. s.number ≤ suc w.memory.opened) (λ s le. omega arith) w.memory.heard inv.numbers;
+    numbers = All-weaker (λ s. s.number ≤ w.memory.opened) (λ s. s.number ≤ suc w.memory.opened) (λ s le. omega arith) w.memory.heard inv.numbers;
   }
   opened wish (Err e) = inv
 

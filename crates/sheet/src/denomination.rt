@@ -11,7 +11,8 @@ pub struct Pair {
     pub exponent: u8,
 }
 
-// A mantissa and an exponent: the value is mantissa × 10 to the exponent. Without a mantissa the code is unassigned.
+// A mantissa and an exponent: the value is mantissa × 10 to the exponent. Mantissa 0 means that the code is unassigned: the
+// pair is kept as it came, and as the sheet's form has it, so no Option stands around it.
 #[derive(Clone, Copy, Debug, PartialEq, Eq)]
 pub struct Denomination {
     mantissa: u8,
