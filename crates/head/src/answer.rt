@@ -10,7 +10,8 @@ ghost use Rattle.head.specs.Answers.{EchoShort, reply_content, written};
 use crate::command::Reply;
 use message::Message;
 
-// Writes a frame with at most two data bytes to the start of the buffer, whose rest stays, and tells its length.
+// Writes a frame with at most two data bytes to the start of the buffer, whose rest stays, and tells its length. There is
+// no heap, so the frame goes into the caller's buffer, and `receive` has refused with 7 one without room.
 fn send(code: u8, data: &[u8], buffer: &mut [u8]) -> usize
     requires short { length «data».now ≤ 2 }
     requires room { 7 ≤ length buffer.old }

@@ -63,8 +63,8 @@ impl SecondFrame {
         }
     }
 
-    // Writes the frame to the start of the buffer, whose rest stays, and tells its length. It is refused where the frame
-    // does not fit; seven bytes are enough for any.
+    // Writes the frame to the start of the caller's buffer, since there is no heap; its rest stays. Tells the frame's
+    // length. It is refused where the frame does not fit; seven bytes are enough for any.
     pub fn write(&self, buffer: &mut [u8]) -> Result<usize, WriteFault>
         ensures answer { result ≡ room_answer (Some (frame_message self.now)) (length buffer.old) }
         ensures after { buffer.new ≡ buffer_with (Some (frame_message self.now)) buffer.old result }
