@@ -24,7 +24,7 @@ fn tells<R: Numbered + fmt::Display>(
 }
 
 #[test]
-fn refusals_tell_number_and_sentence(rt: HostRuntime) {
+fn refusals_print_number_and_sentence(rt: HostRuntime) {
     let admission = [
         (AdmissionRefusal::SlotOpen, 11, "11: a slot is open"),
         (
@@ -107,7 +107,7 @@ const STALE_SECOND: &str = "18: no second report is awaited with this pass";
 
 // With 19 and 7 the pass comes back, and with 18 it does not.
 #[test]
-fn refused_reports_tell_number_and_sentence(rt: HostRuntime) {
+fn refused_reports_print_number_and_sentence(rt: HostRuntime) {
     let mut hub = Hub::new(Table::new([4; 14]));
     assert_eq!(rt; hub.admit(0, &SHEET), Ok(()));
     let mut buffer = [0; 16];
