@@ -8,13 +8,7 @@ use drawer_image::size::check_count;
 use std::{env, fs, io};
 
 fn main(rt: HostRuntime) -> io::Result<()> {
-    let mut words = match env::args(&rt) {
-        Ok(words) => words,
-        Err(error) => {
-            eprintln!(rt; "audit: cannot read the arguments: {error}")?;
-            return Err(error);
-        }
-    };
+    let mut words = env::args(&rt).or_else(|error| cannot_read(&rt, "the arguments", error))?;
     let _program = words.next();
     match (words.next(), words.next(), words.next()) {
         (Some(count), Some(file), None) => audit(&rt, count.as_str(), file.as_str()),
@@ -32,6 +26,12 @@ fn help(rt: &HostRuntime) -> io::Result<()> {
     )
 }
 
+// Tells what cannot be read, and gives its error back.
+fn cannot_read<T>(rt: &HostRuntime, what: &str, error: io::Error) -> io::Result<T> {
+    eprintln!(rt; "audit: cannot read {what}: {error}")?;
+    Err(error)
+}
+
 fn audit(rt: &HostRuntime, count: &str, file: &str) -> io::Result<()> {
     let Some(bills) = read_count(count.as_bytes()) else {
         eprintln!(rt; "audit: K is not decimal digits without leading zeros: {count}")?;
@@ -41,13 +41,7 @@ fn audit(rt: &HostRuntime, count: &str, file: &str) -> io::Result<()> {
         let refusal = Refusal(fault);
         return println!(rt; "{refusal}");
     }
-    let image = match fs::read(rt, file) {
-        Ok(image) => image,
-        Err(error) => {
-            eprintln!(rt; "audit: cannot read {file}: {error}")?;
-            return Err(error);
-        }
-    };
+    let image = fs::read(rt, file).or_else(|error| cannot_read(rt, file, error))?;
     let text = report(rt.alloc(), image.as_slice(), bills)?;
     print!(rt; "{text}")
 }

@@ -1,25 +1,29 @@
 // The lines that an audit prints.
 ghost use Rattle.std.specs.Prelude.{◌≡◌, ℕ, ◌+◌, ◌<◌, ◌≤◌, Some};
+ghost use Rattle.std.specs.Option.{unwrap_or};
 ghost use Rattle.audit_report.specs.Reports.{head_text, refusal_text};
 
 use drawer_image::fault::DrawerFault;
+use number::Numbered;
 use std::fmt;
 
-// What an audit tells of a head; of no promised amount 0.
+// What an audit tells of a head.
 #[derive(Clone, Copy, Debug, PartialEq, Eq)]
 pub struct HeadLine {
     pub head: u8,
-    pub promised: u32,
+    pub promised: Option<u32>,
     pub credited: u64,
     pub places: u16,
 }
 
+// Of no promised amount 0 is printed. By hand, as the contract of the report relies on `ghost output`, which a derive
+// does not give.
 impl fmt::Display for HeadLine {
-    ghost output = { λ x. Some (head_text x.head x.promised x.credited x.places) };
+    ghost output = { λ x. Some (head_text x.head (unwrap_or x.promised 0) x.credited x.places) };
 
     fn fmt<W: fmt::Write>(&self, f: &mut fmt::Formatter<W>) -> fmt::Result {
         let head = self.head;
-        let promised = self.promised;
+        let promised = self.promised.unwrap_or(0);
         let credited = self.credited;
         let places = self.places;
         write!(
@@ -33,22 +37,16 @@ impl fmt::Display for HeadLine {
 #[derive(Clone, Copy)]
 pub struct Refusal(pub DrawerFault);
 
+// By hand for the same reason.
 impl fmt::Display for Refusal {
     ghost output = { λ x. Some (refusal_text x.0) };
 
     fn fmt<W: fmt::Write>(&self, f: &mut fmt::Formatter<W>) -> fmt::Result {
         match self.0 {
-            DrawerFault::BadCount(number) => {
-                let number = number.value();
+            DrawerFault::BadField(number, place) => write!(f, "refused {number} at {place}"),
+            fault => {
+                let number = fault.number();
                 write!(f, "refused {number}")
-            }
-            DrawerFault::BadLength(number) => {
-                let number = number.value();
-                write!(f, "refused {number}")
-            }
-            DrawerFault::BadField(number, place) => {
-                let number = number.value();
-                write!(f, "refused {number} at {place}")
             }
         }
     }

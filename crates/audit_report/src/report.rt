@@ -13,7 +13,7 @@ use std::alloc::{AllocError, Global};
 
 // What the section of a head holds, as a line.
 pub fn head_line(image: &[u8], bills: u16, head: u8) -> HeadLine
-    ensures { result ≡ record { head = head; promised = unwrap_or (bytes_held image.now bills head).promised 0; credited = (bytes_held image.now bills head).credited; places = (bytes_held image.now bills head).places } }
+    ensures { result ≡ record { head = head; promised = (bytes_held image.now bills head).promised; credited = (bytes_held image.now bills head).credited; places = (bytes_held image.now bills head).places } }
 {
     let section = section_of(image, bills, head);
     HeadLine {
@@ -24,14 +24,15 @@ pub fn head_line(image: &[u8], bills: u16, head: u8) -> HeadLine
     }
 }
 
+// The lines of all heads. A loop over their numbers, as these are printed: a chain's closure would change the text, of
+// which nothing would then be known.
 fn report_heads(heap: Global, image: &[u8], bills: u16) -> Result<String, AllocError>
     ensures { IfOk result (λ text. string_bytes text ≡ lines_of (bytes_held image.now bills) heads) }
 {
     let mut text = String::new(heap);
     for head in 0..HEADS as u8 {
         let line = head_line(image, bills, head);
-        let line = format!(in heap; "{line}\n")?;
-        text.push_str(line.as_str())?;
+        writeln!(text, "{line}")?;
     }
     Ok(text)
 }

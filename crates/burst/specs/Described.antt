@@ -2,13 +2,15 @@
 --
 --   described_burst bs    the line for received bytes
 --   described_found f     the line for a message: kind, command byte and data, place, and why a status does not read
---   refusal_text k m      the end of such a line, empty but for a status that does not read
+--   refusal k m           why a status does not read; none for one that reads and for the other kinds
+--   refused_text r        the end of such a line, empty but for a status that does not read
 --   kind_word k           the word for a kind
 --   Answered line text    what is printed for a line of input: of the burst that it spells, or `bad`
 --   without_end line      a line of input without the 0AH that ends it
 --
 -- Assumes nothing.
-use Rattle.std.specs.Prelude.{◌≡◌, ℕ, ◌-◌, cond, ◌&&◌, List, [], ◌∷◌, ◌++◌, length, take, Ok, Err, codes, decimal, Result, ◌==◌, ◌≢◌, nat_lt, slice_index}
+use Rattle.std.specs.Prelude.{◌≡◌, ℕ, ◌-◌, cond, ◌&&◌, List, [], ◌∷◌, ◌++◌, length, take, Ok, Err, Some, None, codes, decimal, Option, Result, ◌==◌, ◌≢◌, nat_lt, slice_index}
+use Rattle.std.specs.Result.{result_err}
 use Rattle.frame.specs.Faults.{frame_fault_number}
 use Rattle.frame.specs.Frames.{Content}
 use Rattle.hex_text.specs.Spelled.{Bytes, blanked, spelled}
@@ -24,19 +26,19 @@ kind_word acknowledgement = codes "acknowledgement"
 kind_word setting = codes "setting"
 kind_word other = codes "other"
 
-abbrev pub refused_as : Result Content StatusFault → List ℕ
-refused_as (Ok m) = []
-refused_as (Err e) = codes " refused " ++ decimal (status_fault_number e)
+abbrev pub refusal : Kind → Content → Option StatusFault
+refusal status m = result_err (status_answer m.command m.«data»)
+refusal acknowledgement m = None
+refusal setting m = None
+refusal other m = None
 
-abbrev pub refusal_text : Kind → Content → List ℕ
-refusal_text status m = refused_as (status_answer m.command m.«data»)
-refusal_text acknowledgement m = []
-refusal_text setting m = []
-refusal_text other m = []
+abbrev pub refused_text : Option StatusFault → List ℕ
+refused_text None = []
+refused_text (Some e) = codes " refused " ++ decimal (status_fault_number e)
 
 abbrev pub described_found : Found → List ℕ
 described_found f =
-    kind_word f.kind ++ (blanked (f.says.command ∷ f.says.«data») ++ (codes " at " ++ (decimal f.place ++ refusal_text f.kind f.says)))
+    kind_word f.kind ++ (blanked (f.says.command ∷ f.says.«data») ++ (codes " at " ++ (decimal f.place ++ refused_text (refusal f.kind f.says))))
 
 abbrev pub described : Result Found NothingHeard → List ℕ
 described (Ok f) = described_found f

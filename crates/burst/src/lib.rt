@@ -1,38 +1,51 @@
 // What `listen` prints of a burst, the bytes received in one go.
 #![tactic(auto)]
 
-ghost use Rattle.std.specs.Prelude.{◌≡◌, IfOk, string_bytes};
+ghost use Rattle.std.specs.Prelude.{◌≡◌, IfOk, Some, string_bytes};
 ghost use Rattle.message.specs.Heard.{found_by};
 ghost use Rattle.message.specs.Kinds.{message_kind, message_content};
-ghost use Rattle.burst.specs.Described.{Answered, kind_word, described_burst, described_found, refusal_text, without_end};
+ghost use Rattle.burst.specs.Described.{Answered, kind_word, described_burst, described_found, refusal, refused_text, without_end};
 
-use hex_text::HexFault;
+use hex_text::{Blanked, HexFault};
 use message::{Heard, Message, hear};
+use number::Numbered;
+use status::StatusFault;
 use std::alloc::{AllocError, Global};
+use std::fmt;
 
 fn kind_word(message: Message) -> &'static str
     ensures { result.now ≡ kind_word (message_kind message.entry) }
 {
     match message {
-        Message::Status(_, _) => "status",
-        Message::Acknowledgement(_, _) => "acknowledgement",
-        Message::Setting(_, _) => "setting",
-        Message::Other(_, _) => "other",
+        Message::Status(..) => "status",
+        Message::Acknowledgement(..) => "acknowledgement",
+        Message::Setting(..) => "setting",
+        Message::Other(..) => "other",
     }
 }
 
-// Behind a status that does not read, why it does not.
-fn refusal_text(heap: Global, message: Message) -> Result<String, AllocError>
-    ensures { IfOk result (λ text. string_bytes text ≡ refusal_text (message_kind message.entry) (message_content message.entry)) }
+// Why a status does not read.
+fn refusal(message: Message) -> Option<StatusFault>
+    ensures { result ≡ refusal (message_kind message.entry) (message_content message.entry) }
 {
-    let Message::Status(code, data) = message else {
-        return Ok(String::new(heap));
-    };
-    match status::read(code.byte(), data) {
-        Ok(_) => Ok(String::new(heap)),
-        Err(fault) => {
-            let number = fault.number();
-            format!(in heap; " refused {number}")
+    match message {
+        Message::Status(code, data) => status::read(code.into(), data).err(),
+        _ => None,
+    }
+}
+
+// The end of a line: why a status does not read, or nothing.
+#[derive(Clone, Copy)]
+struct Refused(Option<StatusFault>);
+
+// Written out, since the clause of `describe_heard` relies on what it prints, its `ghost output`.
+impl fmt::Display for Refused {
+    ghost output = { λ x. Some (refused_text x.0) };
+
+    fn fmt<W: fmt::Write>(&self, f: &mut fmt::Formatter<W>) -> fmt::Result {
+        match self.0 {
+            Some(fault) => write!(f, " refused {}", fault.number()),
+            None => Ok(()),
         }
     }
 }
@@ -40,13 +53,12 @@ fn refusal_text(heap: Global, message: Message) -> Result<String, AllocError>
 fn describe_heard(heap: Global, heard: Heard) -> Result<String, AllocError>
     ensures { IfOk result (λ text. string_bytes text ≡ described_found (found_by heard.entry)) }
 {
-    let kind = kind_word(heard.message);
-    let command = hex_text::spell_blanked(heap, &[heard.message.command()])?;
-    let data = hex_text::spell_blanked(heap, heard.message.data())?;
-    let place = heard.place;
-    let refusal = refusal_text(heap, heard.message)?;
-    let text = format!(in heap; "{kind}{command}{data} at {place}{refusal}")?;
-    Ok(text)
+    let Heard { place, message } = heard;
+    let kind = kind_word(message);
+    let command = message.command();
+    let data = Blanked(message.data());
+    let refused = Refused(refusal(message));
+    format!(in heap; "{kind} {command:02X}{data} at {place}{refused}")
 }
 
 // The line for received bytes.
@@ -68,17 +80,14 @@ pub fn answer(heap: Global, line: &[u8]) -> Result<String, AllocError>
     ensures { IfOk result (λ text. Answered line.now (string_bytes text)) }
 {
     match hex_text::parse(heap, line) {
-        Ok(received) => {
-            let text = describe(heap, received.as_slice())?;
-            Ok(text)
-        }
+        Ok(received) => describe(heap, received.as_slice()),
         Err(HexFault::NotHex) => String::from_str(heap, "bad"),
         Err(HexFault::NoMemory) => Err(AllocError),
     }
 }
 
 // A line of input without the 0AH that ends it; the last line may have none.
-pub fn without_end<'a>(line: &'a [u8]) -> &'a [u8]
+pub fn without_end(line: &[u8]) -> &[u8]
     ensures { result.now ≡ without_end line.now }
 {
     match line {

@@ -1,5 +1,5 @@
--- What it says that a byte is known as a code, and how the three kinds of status codes lie apart. Assumes nothing.
-use Rattle.std.proofs.Common.{◌≡◌, ℕ, Bool, true, false, cond, Some, None, sym, refl, ap, arith}
+-- How the three kinds of status codes lie apart. Assumes nothing.
+use Rattle.std.proofs.Common.{◌≡◌, ℕ, Bool, true, false, cond, sym, refl, ap}
 use Rattle.codes.specs.Codes.{bare_code, detailed_code, complaint_code, status_code, code_data_count, data_count, is_status, is_detailed, is_complaint}
 use Rattle.codes.specs.declared.status.BareCode.{BareCode}
 use Rattle.codes.specs.declared.status.BareCode.TheVariants.{Idling, Accepting, Stacking, VendValid, Stacked, Returning, Disabled, Initializing, PowerUp, PowerUpWithBillInAcceptor, PowerUpWithBillInStacker, StackerFull, StackerOpen, JamInAcceptor, JamInStacker, Pause, Cheated}
@@ -9,11 +9,6 @@ use Rattle.codes.specs.declared.status.ComplaintCode.{ComplaintCode}
 use Rattle.codes.specs.declared.status.ComplaintCode.TheVariants.{CommunicationError, InvalidCommand}
 use Rattle.codes.specs.declared.status.StatusCode.{StatusCode}
 use Rattle.codes.specs.declared.status.StatusCode.TheVariants.{Bare, Detailed, Complaint}
-
--- The byte passes the test, and is the code's.
-pub known_as : (test : Bool) (byte code : ℕ) → Some code ≡ cond test (Some byte) None → (test ≡ true) × (code ≡ byte)
-known_as true byte code e = (refl, cc)
-known_as false byte code e = let z : ◌≡◌ {A = ℕ} 0 1 = cc in absurd (omega arith)
 
 -- A code by the three tests: a status, with a data byte, a complaint.
 abbrev pub Tests : ℕ → Bool → Bool → Type 0

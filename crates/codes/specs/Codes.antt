@@ -4,10 +4,10 @@
 --   is_status, is_setting                 the codes of statuses, complaints with them, and of settings
 --   data_count c, code_data_count code    how many data bytes go with a status code, by its byte and by the code
 --   bare_code and its like                the byte of a code
---   known is b                            b if it is such a code
+--   Decodes byte_of is b r                r is the code whose byte is b, or refuses b exactly if b is no such code
 --
 -- Two codes never have the same byte, so that a code is known by its byte. Assumes nothing.
-use Rattle.std.specs.Prelude.{ℕ, Bool, cond, ◌&&◌, ◌||◌, Some, None, Option, ◌==◌, nat_le}
+use Rattle.std.specs.Prelude.{◌≡◌, ℕ, Bool, true, false, cond, ◌&&◌, ◌||◌, Result, MatchResult, ◌==◌, nat_le}
 use Rattle.codes.specs.declared.status.BareCode.{BareCode}
 use Rattle.codes.specs.declared.status.BareCode.TheVariants.{Idling, Accepting, Stacking, VendValid, Stacked, Returning, Disabled, Initializing, PowerUp, PowerUpWithBillInAcceptor, PowerUpWithBillInStacker, StackerFull, StackerOpen, JamInAcceptor, JamInStacker, Pause, Cheated}
 use Rattle.codes.specs.declared.status.DetailedCode.{DetailedCode}
@@ -16,6 +16,7 @@ use Rattle.codes.specs.declared.status.ComplaintCode.{ComplaintCode}
 use Rattle.codes.specs.declared.status.ComplaintCode.TheVariants.{CommunicationError, InvalidCommand}
 use Rattle.codes.specs.declared.status.StatusCode.{StatusCode}
 use Rattle.codes.specs.declared.status.StatusCode.TheVariants.{Bare, Detailed, Complaint}
+use Rattle.codes.specs.declared.unknown.UnknownCode.{UnknownCode}
 use Rattle.codes.specs.declared.setting.SettingCode.{SettingCode}
 use Rattle.codes.specs.declared.setting.SettingCode.TheVariants.{EnableDenominations, SecurityDenominations, Inhibit, OptionalFunction}
 
@@ -41,8 +42,9 @@ data_count c = cond (is_detailed c) 1 0
 abbrev pub is_setting : ℕ → Bool
 is_setting c = c == 0xc0 || c == 0xc1 || c == 0xc3 || c == 0xc5
 
-abbrev pub known : (ℕ → Bool) → ℕ → Option ℕ
-known is c = cond (is c) (Some c) None
+abbrev pub Decodes : {Code : Type 0} → (Code → ℕ) → (ℕ → Bool) → ℕ → Result Code UnknownCode → Type 0
+Decodes byte_of is b r =
+    MatchResult r (λ code. (is b ≡ true) × (byte_of code ≡ b)) (λ unknown. (is b ≡ false) × (unknown.0 ≡ b))
 
 abbrev pub bare_code : BareCode → ℕ
 bare_code Idling = 0x11

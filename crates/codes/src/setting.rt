@@ -1,7 +1,8 @@
 // The codes of the settings that the hub sends, and that a head echoes.
 ghost use Rattle.std.specs.Prelude.{◌≡◌};
-ghost use Rattle.codes.specs.Codes.{setting_code, is_setting, known};
-ghost use Rattle.std.specs.Option.{option_map};
+ghost use Rattle.codes.specs.Codes.{Decodes, setting_code, is_setting};
+
+use crate::unknown::UnknownCode;
 
 #[derive(Clone, Copy, Debug, PartialEq, Eq)]
 pub enum SettingCode {
@@ -11,22 +12,26 @@ pub enum SettingCode {
     OptionalFunction = 0xc5,
 }
 
-impl SettingCode {
-    pub fn byte(self) -> u8
-        ensures { result ≡ setting_code self }
-    {
-        self as u8
-    }
+impl From<SettingCode> for u8 {
+    ghost from_gives = { λ code byte. byte ≡ setting_code code };
 
-    pub fn from_byte(byte: u8) -> Option<SettingCode>
-        ensures { option_map setting_code result ≡ known is_setting byte }
-    {
+    fn from(code: SettingCode) -> u8 {
+        code as u8
+    }
+}
+
+impl TryFrom<u8> for SettingCode {
+    type Error = UnknownCode;
+
+    ghost try_from_gives = { Decodes setting_code is_setting };
+
+    fn try_from(byte: u8) -> Result<SettingCode, UnknownCode> {
         match byte {
-            0xc0 => Some(SettingCode::EnableDenominations),
-            0xc1 => Some(SettingCode::SecurityDenominations),
-            0xc3 => Some(SettingCode::Inhibit),
-            0xc5 => Some(SettingCode::OptionalFunction),
-            _ => None,
+            0xc0 => Ok(SettingCode::EnableDenominations),
+            0xc1 => Ok(SettingCode::SecurityDenominations),
+            0xc3 => Ok(SettingCode::Inhibit),
+            0xc5 => Ok(SettingCode::OptionalFunction),
+            _ => Err(UnknownCode(byte)),
         }
     }
 }

@@ -1,7 +1,8 @@
 // The codes by which a head tells its status, by how many data bytes go with them.
 ghost use Rattle.std.specs.Prelude.{◌≡◌};
-ghost use Rattle.codes.specs.Codes.{bare_code, detailed_code, complaint_code, status_code, code_data_count, is_bare, is_detailed, is_complaint, is_status, known};
-ghost use Rattle.std.specs.Option.{option_map};
+ghost use Rattle.codes.specs.Codes.{Decodes, bare_code, detailed_code, complaint_code, status_code, code_data_count, data_count, is_bare, is_detailed, is_complaint, is_status};
+
+use crate::unknown::UnknownCode;
 
 // A status that has no data.
 #[derive(Clone, Copy, Debug, PartialEq, Eq)]
@@ -47,110 +48,123 @@ pub enum StatusCode {
     Complaint(ComplaintCode),
 }
 
-impl BareCode {
-    pub fn byte(self) -> u8
-        ensures { result ≡ bare_code self }
-    {
-        self as u8
-    }
+impl From<BareCode> for u8 {
+    ghost from_gives = { λ code byte. byte ≡ bare_code code };
 
-    pub fn from_byte(byte: u8) -> Option<BareCode>
-        ensures { option_map bare_code result ≡ known is_bare byte }
-    {
+    fn from(code: BareCode) -> u8 {
+        code as u8
+    }
+}
+
+impl TryFrom<u8> for BareCode {
+    type Error = UnknownCode;
+
+    ghost try_from_gives = { Decodes bare_code is_bare };
+
+    fn try_from(byte: u8) -> Result<BareCode, UnknownCode> {
         match byte {
-            0x11 => Some(BareCode::Idling),
-            0x12 => Some(BareCode::Accepting),
-            0x14 => Some(BareCode::Stacking),
-            0x15 => Some(BareCode::VendValid),
-            0x16 => Some(BareCode::Stacked),
-            0x18 => Some(BareCode::Returning),
-            0x1a => Some(BareCode::Disabled),
-            0x1b => Some(BareCode::Initializing),
-            0x40 => Some(BareCode::PowerUp),
-            0x41 => Some(BareCode::PowerUpWithBillInAcceptor),
-            0x42 => Some(BareCode::PowerUpWithBillInStacker),
-            0x43 => Some(BareCode::StackerFull),
-            0x44 => Some(BareCode::StackerOpen),
-            0x45 => Some(BareCode::JamInAcceptor),
-            0x46 => Some(BareCode::JamInStacker),
-            0x47 => Some(BareCode::Pause),
-            0x48 => Some(BareCode::Cheated),
-            _ => None,
+            0x11 => Ok(BareCode::Idling),
+            0x12 => Ok(BareCode::Accepting),
+            0x14 => Ok(BareCode::Stacking),
+            0x15 => Ok(BareCode::VendValid),
+            0x16 => Ok(BareCode::Stacked),
+            0x18 => Ok(BareCode::Returning),
+            0x1a => Ok(BareCode::Disabled),
+            0x1b => Ok(BareCode::Initializing),
+            0x40 => Ok(BareCode::PowerUp),
+            0x41 => Ok(BareCode::PowerUpWithBillInAcceptor),
+            0x42 => Ok(BareCode::PowerUpWithBillInStacker),
+            0x43 => Ok(BareCode::StackerFull),
+            0x44 => Ok(BareCode::StackerOpen),
+            0x45 => Ok(BareCode::JamInAcceptor),
+            0x46 => Ok(BareCode::JamInStacker),
+            0x47 => Ok(BareCode::Pause),
+            0x48 => Ok(BareCode::Cheated),
+            _ => Err(UnknownCode(byte)),
         }
     }
 }
 
-impl DetailedCode {
-    pub fn byte(self) -> u8
-        ensures { result ≡ detailed_code self }
-    {
-        self as u8
-    }
+impl From<DetailedCode> for u8 {
+    ghost from_gives = { λ code byte. byte ≡ detailed_code code };
 
-    pub fn from_byte(byte: u8) -> Option<DetailedCode>
-        ensures { option_map detailed_code result ≡ known is_detailed byte }
-    {
+    fn from(code: DetailedCode) -> u8 {
+        code as u8
+    }
+}
+
+impl TryFrom<u8> for DetailedCode {
+    type Error = UnknownCode;
+
+    ghost try_from_gives = { Decodes detailed_code is_detailed };
+
+    fn try_from(byte: u8) -> Result<DetailedCode, UnknownCode> {
         match byte {
-            0x13 => Some(DetailedCode::Escrow),
-            0x17 => Some(DetailedCode::Rejecting),
-            0x49 => Some(DetailedCode::Failure),
-            _ => None,
+            0x13 => Ok(DetailedCode::Escrow),
+            0x17 => Ok(DetailedCode::Rejecting),
+            0x49 => Ok(DetailedCode::Failure),
+            _ => Err(UnknownCode(byte)),
         }
     }
 }
 
-impl ComplaintCode {
-    pub fn byte(self) -> u8
-        ensures { result ≡ complaint_code self }
-    {
-        self as u8
-    }
+impl From<ComplaintCode> for u8 {
+    ghost from_gives = { λ code byte. byte ≡ complaint_code code };
 
-    pub fn from_byte(byte: u8) -> Option<ComplaintCode>
-        ensures { option_map complaint_code result ≡ known is_complaint byte }
-    {
+    fn from(code: ComplaintCode) -> u8 {
+        code as u8
+    }
+}
+
+impl TryFrom<u8> for ComplaintCode {
+    type Error = UnknownCode;
+
+    ghost try_from_gives = { Decodes complaint_code is_complaint };
+
+    fn try_from(byte: u8) -> Result<ComplaintCode, UnknownCode> {
         match byte {
-            0x4a => Some(ComplaintCode::CommunicationError),
-            0x4b => Some(ComplaintCode::InvalidCommand),
-            _ => None,
+            0x4a => Ok(ComplaintCode::CommunicationError),
+            0x4b => Ok(ComplaintCode::InvalidCommand),
+            _ => Err(UnknownCode(byte)),
         }
     }
 }
 
 impl StatusCode {
-    pub fn byte(self) -> u8
-        ensures { result ≡ status_code self }
-    {
-        match self {
-            StatusCode::Bare(code) => code.byte(),
-            StatusCode::Detailed(code) => code.byte(),
-            StatusCode::Complaint(code) => code.byte(),
-        }
-    }
-
     // How many data bytes go with the code.
+    #[tactic(auto, using(crate::proofs::Known::counted))]
     pub fn data_count(self) -> usize
-        ensures { result ≡ code_data_count self }
+        ensures by_code { result ≡ code_data_count self }
+        ensures by_byte { result ≡ data_count (status_code self) }
     {
         match self {
-            StatusCode::Bare(_) => 0,
+            StatusCode::Bare(_) | StatusCode::Complaint(_) => 0,
             StatusCode::Detailed(_) => 1,
-            StatusCode::Complaint(_) => 0,
         }
     }
+}
 
-    pub fn from_byte(byte: u8) -> Option<StatusCode>
-        ensures { option_map status_code result ≡ known is_status byte }
-    {
-        if let Some(code) = BareCode::from_byte(byte) {
-            return Some(StatusCode::Bare(code));
+impl From<StatusCode> for u8 {
+    ghost from_gives = { λ code byte. byte ≡ status_code code };
+
+    fn from(code: StatusCode) -> u8 {
+        match code {
+            StatusCode::Bare(code) => code.into(),
+            StatusCode::Detailed(code) => code.into(),
+            StatusCode::Complaint(code) => code.into(),
         }
-        if let Some(code) = DetailedCode::from_byte(byte) {
-            return Some(StatusCode::Detailed(code));
-        }
-        if let Some(code) = ComplaintCode::from_byte(byte) {
-            return Some(StatusCode::Complaint(code));
-        }
-        None
+    }
+}
+
+impl TryFrom<u8> for StatusCode {
+    type Error = UnknownCode;
+
+    ghost try_from_gives = { Decodes status_code is_status };
+
+    fn try_from(byte: u8) -> Result<StatusCode, UnknownCode> {
+        let bare = BareCode::try_from(byte).map(StatusCode::Bare);
+        let detailed = DetailedCode::try_from(byte).map(StatusCode::Detailed);
+        let complaint = ComplaintCode::try_from(byte).map(StatusCode::Complaint);
+        bare.or(detailed).or(complaint)
     }
 }

@@ -1,5 +1,5 @@
 -- What a section says after its promise, or a settled bill, is written. Assumes nothing.
-use Rattle.std.proofs.Common.{◌≡◌, ℕ, zero, suc, ◌+◌, ◌-◌, ◌*◌, ◌^◌, ◌<◌, ◌≤◌, Bool, true, false, ◌&&◌, ◌||◌, eqb, leb, ◌≢◌, ◌⊎◌, List, length, Some, None, Option, sym, refl, ap, ◌∙◌, subst, ap₂, inl, inr, ⊎_elim, add-one, arith}
+use Rattle.std.proofs.Common.{◌≡◌, ℕ, zero, suc, ◌+◌, ◌-◌, ◌*◌, ◌^◌, ◌<◌, ◌≤◌, Bool, true, false, cond, ◌&&◌, ◌||◌, eqb, leb, ◌≢◌, ◌⊎◌, List, length, Some, None, Option, sym, refl, ap, ◌∙◌, subst, ap₂, inl, inr, ⊎_elim, add-one, arith}
 use Rattle.std.proofs.lemmas.Bool.{and_parts, and_from, le-leb, eqb-true, cases_lt}
 use Rattle.std.specs.Option.{option_or}
 use Rattle.ledger.specs.Held.{most_amount}
@@ -9,10 +9,15 @@ use Rattle.drawer.specs.Writes.{put_amount, put_settled}
 use Rattle.drawer_image.specs.Sections.{free_in, credited_in, bad_in, unless, section_of}
 use Rattle.drawer_image.proofs.Lawful.{promise_good}
 use Rattle.drawer_image.proofs.Walks.{bad_more, free_none, after_free, after_settled}
-use Rattle.drawer.proofs.Puts.{Same, tag_kept, length_kept, amount_same, put_other, settled_other, settled_tag, settled_length, settled_amount}
-use Rattle.drawer.proofs.Frames.{same_free, same_promise, free_frame, sum_frame, bad_frame}
+use Rattle.drawer_image.proofs.Fields.{same_free, same_promise}
+use Rattle.drawer.proofs.Puts.{Kept, tag_kept, length_kept, amount_same, put_other, settled_other, settled_tag, settled_length, settled_amount}
+use Rattle.drawer.proofs.Frames.{free_frame, sum_frame, bad_frame}
 
-abbrev pub says : ℕ → ℕ → ℕ → Section
+-- the amount of a promise, as an amount or none
+abbrev pub promised_as : ℕ → Option ℕ
+promised_as a = cond (eqb a 0) None (Some a)
+
+abbrev pub says : Option ℕ → ℕ → ℕ → Section
 says p c f = record { promised = p; credited = c; free = f }
 
 -- one bill less
@@ -62,7 +67,7 @@ module _ (bs : List ℕ) (b m a : ℕ) (room : 7 * (b + m + 1) + 7 ≤ length bs
       (settled_amount bs (b + m + 1) a room big)
       ∙ and_from (leb 1 a) (leb a most_amount) (le-leb 1 a (omega arith)) (le-leb a most_amount most)
 
-  other : (i : ℕ) → i ≢ m → Same bs cs (b + suc i)
+  other : (i : ℕ) → i ≢ m → Kept bs cs (b + suc i)
   other i ne = settled_other bs (b + m + 1) a (b + suc i) (λ e. ne (omega arith))
 
   -- n bills after the settling, of which the settled one is one
@@ -70,11 +75,11 @@ module _ (bs : List ℕ) (b m a : ℕ) (room : 7 * (b + m + 1) + 7 ≤ length bs
   Settled n = (bad_in cs b n ≡ None) × (free_in bs b n ≡ free_in cs b n + 1) × (credited_in cs b n ≡ credited_in bs b n + a)
 
   first : is_promise cs b ≡ is_promise bs b
-  first = same_promise bs cs b (settled_other bs (b + m + 1) a b (λ e. omega arith))
+  first = same_promise (settled_other bs (b + m + 1) a b (λ e. omega arith))
 
   at_once : bad_in bs b m ≡ None → Settled (m + 1)
   at_once e =
-      let same : (i : ℕ) → i < m → Same bs cs (b + suc i) = λ i lt. other i (λ e. omega arith) in
+      let same : (i : ℕ) → i < m → Kept bs cs (b + suc i) = λ i lt. other i (λ e. omega arith) in
       let zf = free_frame bs cs b m same ∙ zero_free in
       let x = after_settled cs b m (bad_frame bs cs b m first same ∙ e) zf here in
       let y = after_free bs b m e unused in
@@ -90,7 +95,7 @@ module _ (bs : List ℕ) (b m a : ℕ) (room : 7 * (b + m + 1) + 7 ≤ length bs
       let z : b + suc n ≡ b + n + 1 = omega arith in
       ⊎_elim
       (λ (f : is_free bs (b + n + 1) ≡ true).
-      let g : is_free cs (b + n + 1) ≡ true = ap (is_free cs) (sym z) ∙ same_free bs cs (b + suc n) (other n (λ e. omega arith)) ∙ ap (is_free bs) z ∙ f in
+      let g : is_free cs (b + n + 1) ≡ true = ap (is_free cs) (sym z) ∙ same_free (other n (λ e. omega arith)) ∙ ap (is_free bs) z ∙ f in
       let x = after_free cs b n s.0 g in
       let y = after_free bs b n q.0 f in
       (x.0, omega (arith, x.1, y.1, s.1), omega (arith, x.2, y.2, s.2)))
@@ -109,7 +114,7 @@ module _ (bs : List ℕ) (k b a : ℕ) (room : 7 * b + 7 ≤ length bs) (most : 
   abbrev ds : List ℕ
   ds = put_amount bs b a
 
-  bills : (i : ℕ) → i < k → Same bs ds (b + suc i)
+  bills : (i : ℕ) → i < k → Kept bs ds (b + suc i)
   bills i lt = put_other bs b a (b + suc i) (λ e. omega arith)
 
   told : amount_at ds b ≡ a
@@ -126,5 +131,6 @@ module _ (bs : List ℕ) (k b a : ℕ) (room : 7 * b + 7 ≤ length bs) (most : 
   pub promise_good_still : bad_in ds b k ≡ None
   promise_good_still = bad_frame bs ds b k promise_still bills ∙ good
 
-  pub promise_says : section_of ds b k ≡ says a (credited_in bs b k) (free_in bs b k)
-  promise_says = ap₂ (λ p q. record { promised = p; credited = q; free = free_in ds b k }) told (sum_frame bs ds b k bills) ∙ ap (λ f. record { promised = a; credited = credited_in bs b k; free = f }) (free_frame bs ds b k bills)
+  pub promise_says : section_of ds b k ≡ says (promised_as a) (credited_in bs b k) (free_in bs b k)
+  promise_says =
+      ap₂ (λ p q. says p q (free_in ds b k)) (ap promised_as told) (sum_frame bs ds b k bills) ∙ ap (says (promised_as a) (credited_in bs b k)) (free_frame bs ds b k bills)

@@ -7,9 +7,8 @@
 --                      the facts that every ledger shows: nothing beyond the heads, the bound, the amounts, and the laws of keeping
 --
 -- Assumes nothing.
-use Rattle.std.specs.Prelude.{◌≡◌, ℕ, ◌-◌, ◌≤◌, Bool, true, false, cond, Some, None, ◌==◌, ◌≢◌, refl}
+use Rattle.std.specs.Prelude.{◌≡◌, ℕ, ◌-◌, ◌<◌, ◌≤◌, true, cond, is_some, Some, None, Option, refl}
 use Rattle.std.proofs.Common.{ap, ◌∙◌, arith}
-use Rattle.std.proofs.lemmas.Bool.{eqb-false}
 use Rattle.ledger.specs.Held.{heads, Heads, nothing, Within, Amount}
 use Rattle.drawer_image.specs.declared.section.Section.{Section}
 use Rattle.drawer_image.specs.Checks.{Passes, section_at}
@@ -38,21 +37,14 @@ pub drawer_beyond : (d : Drawer) (h : ℕ) → heads ≤ h → drawer_held d h �
 drawer_beyond d h le = ap held_in (headless_none d.bytes.now d.bills h le)
 
 held_within : (s : Section) → Lawful s → Within (held_in s)
-held_within s l = go (s.promised == 0) (λ e. eqb-false s.promised 0 e)
+held_within s l = go s.promised l.some
   where
-    go : (z : Bool) → (z ≡ false → s.promised ≢ 0) → Within (record { promised = cond z None (Some s.promised); credited = s.credited; places = s.free - cond z 0 1 })
-    go true ne = omega (arith, l.few)
-    go false ne = let q = l.some (let n = ne refl in omega arith) in omega (arith, l.few)
+    go : (p : Option ℕ) → (is_some p ≡ true → 0 < s.free) → Within (record { promised = p; credited = s.credited; places = s.free - cond (is_some p) 1 0 })
+    go None some = omega (arith, l.few)
+    go (Some a) some = let q = some refl in omega (arith, l.few)
 
 pub drawer_within : (d : Drawer) (h : ℕ) → Within (drawer_held d h)
 drawer_within d h = held_within (section_at d.bytes.now d.bills h) (lawful_at d.bytes.now d.bills h)
 
-held_amount : (s : Section) → Lawful s → Amount (held_in s).promised
-held_amount s l = go (s.promised == 0) (λ e. eqb-false s.promised 0 e)
-  where
-    go : (z : Bool) → (z ≡ false → s.promised ≢ 0) → Amount (cond z None (Some s.promised))
-    go true ne = (omega arith, omega arith)
-    go false ne = let n = ne refl in (omega arith, l.most)
-
 pub drawer_amounts : (d : Drawer) (h : ℕ) → Amount (drawer_held d h).promised
-drawer_amounts d h = held_amount (section_at d.bytes.now d.bills h) (lawful_at d.bytes.now d.bills h)
+drawer_amounts d h = (lawful_at d.bytes.now d.bills h).amount

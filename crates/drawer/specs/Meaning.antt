@@ -9,11 +9,11 @@
 use Rattle.std.specs.Prelude.{ℕ, cond, List, is_ok, nat_lt}
 use Rattle.ledger.specs.Held.{heads, Held, Heads, nothing}
 use Rattle.drawer_image.specs.declared.section.Section.{Section}
-use Rattle.drawer_image.specs.Sections.{promise_of, section_of, promised_in, places_in}
+use Rattle.drawer_image.specs.Sections.{promise_of, section_of, places_in}
 use Rattle.drawer_image.specs.Checks.{checked, section_at}
 
 abbrev pub held_in : Section → Held
-held_in s = record { promised = promised_in s; credited = s.credited; places = places_in s }
+held_in s = record { promised = s.promised; credited = s.credited; places = places_in s }
 
 abbrev pub documented : List ℕ → ℕ → Heads
 documented bs k h = cond (nat_lt h heads) (held_in (section_of bs (promise_of k h) k)) nothing

@@ -3,6 +3,7 @@
 
 ghost use Rattle.std.specs.Prelude.{◌≡◌, ℕ, ◌+◌, ◌-◌, ◌*◌, ◌<◌, ◌≤◌, length, is_ok, if◌then◌else◌};
 ghost use Rattle.ledger.specs.Answers.{question, promise_answer, end_answer, promised_after, settled_after, given_back_after};
+ghost use Rattle.drawer_image.specs.Sections.{promise_of};
 ghost use Rattle.drawer_image.specs.Checks.{checked, section_at};
 ghost use Rattle.drawer.specs.Meaning.{bytes_held, made};
 ghost use Rattle.drawer.specs.Writes.{promised_bytes, settled_bytes, given_back_bytes};
@@ -11,7 +12,7 @@ ghost use Rattle.drawer.specs.Theorems.{HoldsDocumented, SettlesIntoFirstFree};
 
 use drawer_image::check::check;
 use drawer_image::section::{Section, section_of};
-use ledger::{Ledger, LedgerFault, MOST_AMOUNT, head_index};
+use ledger::{Ledger, LedgerFault, check_promise, head_index};
 use number::Number;
 
 mod write;
@@ -19,7 +20,7 @@ mod write;
 use write::{put_amount, put_settled};
 
 // A ledger in the caller's bytes, with so many fields for bills in each section, or 0 where the check refused
-// the bytes.
+// the bytes: no section of 0 fields for bills passes, so that such a drawer holds nothing.
 #[derive(Drop)]
 pub struct Drawer<'a> {
     bytes: &'a mut [u8],
@@ -35,9 +36,10 @@ impl<'a> Drawer<'a> {
         ensures bills { result.bills ≡ (if is_ok (checked bytes.old bills) then bills else 0) }
         ensures same { result.bytes.ghost_name ≡ bytes.entry.ghost_name }
     {
-        let bills = match check(bytes, bills) {
-            Ok(()) => bills,
-            Err(_) => 0,
+        let bills = if check(bytes, bills).is_ok() {
+            bills
+        } else {
+            0
         };
         Drawer { bytes, bills }
     }
@@ -61,14 +63,23 @@ impl<'a> Drawer<'a> {
         ensures bytes { result.now ≡ self.entry.bytes.now }
         ensures same { result.ghost_name ≡ self.entry.bytes.ghost_name }
     {
-        let Drawer { bytes, bills: _ } = self;
-        bytes
+        self.bytes
     }
 
-    fn section(&self, head: u8) -> Section
-        ensures { result ≡ section_at self.now.bytes.now self.now.bills head }
+    // What the section of a head says.
+    fn section(&self, head: u8) -> Result<Section, LedgerFault>
+        ensures { result ≡ question head (section_at self.now.bytes.now self.now.bills head) }
     {
-        section_of(self.bytes, self.bills, head)
+        head_index(head)?;
+        Ok(section_of(self.bytes, self.bills, head))
+    }
+
+    // The field of a head's promise, and what its section says.
+    fn opened(&self, head: u8) -> Result<(usize, Section), LedgerFault>
+        ensures { result ≡ question head (promise_of self.now.bills head, section_at self.now.bytes.now self.now.bills head) }
+    {
+        let held = self.section(head)?;
+        Ok(((self.bills as usize + 1) * usize::from(head), held))
     }
 }
 
@@ -90,18 +101,15 @@ impl<'a> Ledger for Drawer<'a> {
     ghost joins = { drawer_joins };
 
     fn promised(&self, head: u8) -> Result<Option<u32>, LedgerFault> {
-        head_index(head)?;
-        Ok(self.section(head).promised())
+        Ok(self.section(head)?.promised)
     }
 
     fn credited(&self, head: u8) -> Result<u64, LedgerFault> {
-        head_index(head)?;
-        Ok(self.section(head).credited)
+        Ok(self.section(head)?.credited)
     }
 
     fn places(&self, head: u8) -> Result<u16, LedgerFault> {
-        head_index(head)?;
-        Ok(self.section(head).places())
+        Ok(self.section(head)?.places())
     }
 
     fn promise(&mut self, head: u8, amount: u32) -> Result<(), LedgerFault>
@@ -111,18 +119,8 @@ impl<'a> Ledger for Drawer<'a> {
         ensures bytes { self.new.bytes.now ≡ promised_bytes self.old.bytes.now self.old.bills head amount result }
         ensures same { self.new.bytes.ghost_name ≡ self.old.bytes.ghost_name }
     {
-        let index = head_index(head)?;
-        if amount == 0 || amount > MOST_AMOUNT {
-            return Err(LedgerFault::BadAmount(Number));
-        }
-        let held = self.section(head);
-        if held.promised != 0 {
-            return Err(LedgerFault::AlreadyPromised(Number));
-        }
-        if held.free == 0 {
-            return Err(LedgerFault::NoPlace(Number, 0));
-        }
-        let first = (self.bills as usize + 1) * index;
+        let (first, held) = self.opened(head)?;
+        check_promise(amount, held.promised, held.places())?;
         put_amount(self.bytes, first, amount);
         Ok(())
     }
@@ -134,15 +132,10 @@ impl<'a> Ledger for Drawer<'a> {
         ensures bytes { self.new.bytes.now ≡ settled_bytes self.old.bytes.now self.old.bills head result }
         ensures same { self.new.bytes.ghost_name ≡ self.old.bytes.ghost_name }
     {
-        let index = head_index(head)?;
-        let held = self.section(head);
-        if held.promised == 0 {
-            return Err(LedgerFault::NonePromised(Number));
-        }
-        let bills = self.bills as usize;
-        let promise = (bills + 1) * index;
-        let next = promise + (bills - held.free as usize) + 1;
-        put_settled(self.bytes, next, held.promised);
+        let (promise, held) = self.opened(head)?;
+        let amount = held.promised.ok_or(LedgerFault::NonePromised(Number))?;
+        let next = promise + (self.bills - held.free) as usize + 1;
+        put_settled(self.bytes, next, amount);
         put_amount(self.bytes, promise, 0);
         Ok(())
     }
@@ -154,12 +147,8 @@ impl<'a> Ledger for Drawer<'a> {
         ensures bytes { self.new.bytes.now ≡ given_back_bytes self.old.bytes.now self.old.bills head result }
         ensures same { self.new.bytes.ghost_name ≡ self.old.bytes.ghost_name }
     {
-        let index = head_index(head)?;
-        let held = self.section(head);
-        if held.promised == 0 {
-            return Err(LedgerFault::NonePromised(Number));
-        }
-        let first = (self.bills as usize + 1) * index;
+        let (first, held) = self.opened(head)?;
+        held.promised.ok_or(LedgerFault::NonePromised(Number))?;
         put_amount(self.bytes, first, 0);
         Ok(())
     }

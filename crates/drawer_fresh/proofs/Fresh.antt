@@ -1,5 +1,5 @@
 -- Fresh bytes pass the check, and hold nothing. Assumes nothing.
-use Rattle.std.proofs.Common.{◌≡◌, ℕ, zero, suc, ◌+◌, ◌-◌, ◌*◌, ◌<◌, ◌≤◌, true, ◌&&◌, eqb, ltb, leb, List, get_or, None, sym, refl, ap, ◌∙◌, ap₂, mul_assoc, arith}
+use Rattle.std.proofs.Common.{◌≡◌, ℕ, zero, suc, ◌+◌, ◌-◌, ◌*◌, ◌<◌, ◌≤◌, true, cond, ◌&&◌, eqb, ltb, leb, List, get_or, Some, None, sym, refl, ap, ◌∙◌, ap₂, mul_assoc, arith}
 use Rattle.std.proofs.lemmas.List.{get_or_append_left, get_or-append_right}
 use Rattle.std.proofs.lemmas.Bool.{cond-true, lt-ltb}
 use Rattle.ledger.specs.Held.{heads, most_amount, most_places, nothing}
@@ -83,12 +83,12 @@ all_free k h (suc n) lt le =
       ap (credited_in (fresh_bytes k) (promise_of k h)) (sym z) ∙ s.2 ∙ ih.2,
     )
 
-section_fresh : (k h : ℕ) → h < heads → section_of (fresh_bytes k) (promise_of k h) k ≡ record { promised = 0; credited = 0; free = k }
+section_fresh : (k h : ℕ) → h < heads → section_of (fresh_bytes k) (promise_of k h) k ≡ record { promised = None; credited = 0; free = k }
 unfolding Free
 section_fresh k h lt =
     let f = all_free k h k lt (omega arith) in
-    ap₂ (λ p c. record { promised = p; credited = c; free = free_in (fresh_bytes k) (promise_of k h) k }) (empty_promise k h lt).amount f.2
-    ∙ ap (λ n. record { promised = 0; credited = 0; free = n }) f.1
+    ap₂ (λ p c. record { promised = p; credited = c; free = free_in (fresh_bytes k) (promise_of k h) k }) (ap (λ a. cond (eqb a 0) None (Some a)) (empty_promise k h lt).amount) f.2
+    ∙ ap (λ n. record { promised = None; credited = 0; free = n }) f.1
 
 pub holds_fresh : (k : ℕ) → 0 < k → k ≤ most_places → HoldsFresh (fresh_bytes k) k
 unfolding Free

@@ -1,16 +1,10 @@
--- Lists that are repeated, and the part of a section that is written so far. Assumes nothing.
-use Rattle.std.proofs.Common.{◌≡◌, ℕ, zero, suc, ◌+◌, ◌-◌, ◌*◌, ◌<◌, ◌≤◌, ◌⊎◌, List, [], ◌++◌, length, get_or, sym, refl, ap, ◌∙◌, ap₂, ⊎_elim, append_assoc, mul-le-mul_left, mul-add, add-one, arith, length-append}
+-- Lists that are repeated, and the bytes of a fresh section by their places. Assumes nothing.
+use Rattle.std.proofs.Common.{◌≡◌, ℕ, zero, suc, ◌+◌, ◌-◌, ◌*◌, ◌/◌, ◌%◌, ◌<◌, ◌≤◌, List, length, get_or, sym, refl, ap, ◌∙◌, ap₂, ⊎_elim, mul-le-mul_left, mul-add, arith, length-append}
 use Rattle.std.proofs.lemmas.List.{get_or_append_left, get_or-append_right}
+use Rattle.std.proofs.Math.Nat.{mod-lt, div-add-mod, div-lt_iff_lt-mul}
 use Rattle.std.proofs.lemmas.Bool.{cases_eq}
-use Rattle.drawer_fresh.specs.Fresh.{empty_field, repeated, fresh_section}
-
-pub repeated_none : (xs : List ℕ) → repeated 0 xs ≡ []
-unfolding repeated
-repeated_none xs = refl
-
-pub repeated_more : (n : ℕ) (xs : List ℕ) → repeated (n + 1) xs ≡ repeated n xs ++ xs
-unfolding repeated
-repeated_more n xs = ap (λ m. repeated m xs) (add-one n)
+use Rattle.ledger.specs.Held.{heads}
+use Rattle.drawer_fresh.specs.Fresh.{empty_field, repeated, fresh_section, fresh_bytes}
 
 pub length_repeated : (n m : ℕ) (xs : List ℕ) → length xs ≡ m → length (repeated n xs) ≡ m * n
 unfolding repeated
@@ -38,38 +32,47 @@ get_or_repeated (suc n) m xs e q r lq lr =
     get_or_append_left (repeated n xs) xs 0 (m * q + r) (omega arith) ∙ get_or_repeated n m xs e q r (omega (arith, ne)) lr)
     (cases_eq q n)
 
--- the first n fields of a fresh section
-pub begun : ℕ → List ℕ
-begun zero = []
-begun (suc n) = empty_field 0x50 ++ repeated n (empty_field 0x00)
-
-pub begun_none : begun 0 ≡ []
-unfolding begun
-begun_none = refl
-
-pub begun_first : begun 1 ≡ empty_field 0x50
-unfolding begun repeated
-begun_first = refl
-
-pub begun_more : (n : ℕ) → (n ≡ 0 → ⊥) → begun (n + 1) ≡ begun n ++ empty_field 0x00
-unfolding begun repeated
-begun_more zero ne = absurd (ne refl)
-begun_more (suc n) ne = ap begun (add-one (suc n)) ∙ sym (append_assoc (empty_field 0x50) (repeated n (empty_field 0x00)) (empty_field 0x00))
-
--- one field more: the promise first, then free ones
-pub begun_next : (n t : ℕ) → ((n ≡ 0) × (t ≡ 0x50)) ⊎ ((n ≡ 0 → ⊥) × (t ≡ 0x00)) → begun n ++ empty_field t ≡ begun (n + 1)
-unfolding begun
-begun_next n t way =
-    ⊎_elim
-    (λ (w : (n ≡ 0) × (t ≡ 0x50)). ap₂ (λ x y. begun x ++ empty_field y) w.0 w.1 ∙ sym begun_first ∙ ap (λ x. begun (x + 1)) (sym w.0))
-    (λ (w : (n ≡ 0 → ⊥) × (t ≡ 0x00)). ap (λ y. begun n ++ empty_field y) w.1 ∙ sym (begun_more n w.0))
-    way
-
-pub begun_all : (k : ℕ) → begun (k + 1) ≡ fresh_section k
-unfolding begun
-begun_all k = ap begun (add-one k)
-
 pub length_section : (k : ℕ) → length (fresh_section k) ≡ 7 * (k + 1)
 length_section k =
     let e = length_repeated k 7 (empty_field 0x00) refl in
     length-append (empty_field 0x50) (repeated k (empty_field 0x00)) ∙ omega arith
+
+-- the byte at a place of a section: the tag of its field first, then 4, then 0
+pub tag_of : ℕ → ℕ
+tag_of zero = 0x50
+tag_of (suc q) = 0x00
+
+pub tag_later : (q : ℕ) → (q ≡ 0 → ⊥) → tag_of q ≡ 0x00
+unfolding tag_of
+tag_later zero ne = absurd (ne refl)
+tag_later (suc q) ne = refl
+
+pub zero_behind : (t r : ℕ) → (r ≡ 0 → ⊥) → (r ≡ 1 → ⊥) → get_or (empty_field t) r 0 ≡ 0
+zero_behind t zero n0 n1 = absurd (n0 refl)
+zero_behind t (suc zero) n0 n1 = absurd (n1 refl)
+zero_behind t (suc (suc zero)) n0 n1 = refl
+zero_behind t (suc (suc (suc zero))) n0 n1 = refl
+zero_behind t (suc (suc (suc (suc zero)))) n0 n1 = refl
+zero_behind t (suc (suc (suc (suc (suc zero))))) n0 n1 = refl
+zero_behind t (suc (suc (suc (suc (suc (suc zero)))))) n0 n1 = refl
+zero_behind t (suc (suc (suc (suc (suc (suc (suc r))))))) n0 n1 = refl
+
+field_byte : (k q r : ℕ) → q ≤ k → r < 7 → get_or (fresh_section k) (7 * q + r) 0 ≡ get_or (empty_field (tag_of q)) r 0
+unfolding tag_of
+field_byte k zero r le lt = let z : 7 * 0 + r ≡ r = omega arith in ap (λ i. get_or (fresh_section k) i 0) z ∙ get_or_append_left (empty_field 0x50) (repeated k (empty_field 0x00)) 0 r lt
+field_byte k (suc n) r le lt =
+    let w : 7 * suc n + r - 7 ≡ 7 * n + r = omega arith in
+    get_or-append_right (empty_field 0x50) (repeated k (empty_field 0x00)) 7 (7 * suc n + r) 0 refl (omega arith)
+    ∙ ap (λ x. get_or (repeated k (empty_field 0x00)) x 0) w ∙ get_or_repeated k 7 (empty_field 0x00) refl n r (omega arith) lt
+
+pub section_byte : (k place : ℕ) → place < 7 * (k + 1) → get_or (fresh_section k) place 0 ≡ get_or (empty_field (tag_of (place / 7))) (place % 7) 0
+section_byte k place lt =
+    let z : place ≡ 7 * (place / 7) + place % 7 = omega arith in
+    ap (λ i. get_or (fresh_section k) i 0) z ∙ field_byte k (place / 7) (place % 7) (omega arith) (omega arith)
+
+pub fresh_at : (k i : ℕ) → i < 98 * (k + 1) → get_or (fresh_bytes k) i 0 ≡ get_or (fresh_section k) (i % (7 * (k + 1))) 0
+fresh_at k i lt =
+    let m = 7 * (k + 1) in
+    let r : i % m < m = mod-lt i (omega arith) in
+    let q : i / m < 14 = (div-lt_iff_lt-mul (omega arith)).1 (omega arith) in
+    ap (λ x. get_or (fresh_bytes k) x 0) (sym (div-add-mod i m)) ∙ get_or_repeated heads m (fresh_section k) (length_section k) (i / m) (i % m) q r

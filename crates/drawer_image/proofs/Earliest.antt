@@ -1,13 +1,20 @@
 -- The earliest of what a function tells, and the places of a drawer's fields. Assumes nothing.
 use Rattle.std.proofs.Common.{◌≡◌, ℕ, zero, suc, ◌+◌, ◌-◌, ◌*◌, ◌<◌, ◌≤◌, Bool, true, false, Some, None, Option, sym, refl, ap, ◌∙◌, ap₂, ⊎_elim, mul-le-mul_left, add-one, arith}
 use Rattle.std.specs.Option.{option_or}
-use Rattle.std.proofs.lemmas.Bool.{cases_eq}
+use Rattle.std.proofs.lemmas.Bool.{cases_eq, cases_lt}
 use Rattle.ledger.specs.Held.{heads}
 use Rattle.drawer_image.specs.Sections.{unless}
 use Rattle.drawer_image.specs.Checks.{earliest}
 
 pub room : (k h n : ℕ) → h < heads → n ≡ 98 * (k + 1) → 7 * ((k + 1) * h + k) + 7 ≤ n
 room k h n lt e = let le : h ≤ 13 = omega arith in omega (arith, mul-le-mul_left (k + 1) le)
+
+-- which section stands among n fields
+pub section_inside : (k h n : ℕ) → n ≡ 14 * (k + 1) → (k + 1) * h + (k + 1) ≤ n → h < heads
+section_inside k h n e le = ⊎_elim (λ (lt : h < heads). lt) (λ (out : heads ≤ h). absurd (omega (arith, mul-le-mul_left (k + 1) out))) (cases_lt h heads)
+
+pub section_outside : (k h n : ℕ) → n ≡ 14 * (k + 1) → n < (k + 1) * h + (k + 1) → heads ≤ h
+section_outside k h n e lt = ⊎_elim (λ (inside : h < heads). absurd (let le : h ≤ 13 = omega arith in omega (arith, mul-le-mul_left (k + 1) le))) (λ (out : heads ≤ h). out) (cases_lt h heads)
 
 pub earliest_none : (f : ℕ → Option ℕ) → earliest f 0 ≡ None
 unfolding earliest
@@ -24,16 +31,6 @@ earliest_stays f n (suc d) j e = let z : n + suc d ≡ suc (n + d) = omega arith
 
 pub earliest_by : (f : ℕ → Option ℕ) (n m j : ℕ) → earliest f n ≡ Some j → n ≤ m → earliest f m ≡ Some j
 earliest_by f n m j e le = let z : n + (m - n) ≡ m = omega arith in ap (earliest f) (sym z) ∙ earliest_stays f n (m - n) j e
-
-or_none : (o : Option ℕ) → option_or o None ≡ o
-or_none None = refl
-or_none (Some x) = refl
-
-pub earliest_added : (f : ℕ → Option ℕ) (n : ℕ) (o p : Option ℕ) → o ≡ earliest f n → f n ≡ p → option_or o p ≡ earliest f (n + 1)
-earliest_added f n o p e h = ap₂ option_or e (sym h) ∙ sym (earliest_more f n)
-
-pub earliest_kept : (f : ℕ → Option ℕ) (n : ℕ) (o : Option ℕ) → o ≡ earliest f n → f n ≡ None → o ≡ earliest f (n + 1)
-earliest_kept f n o e h = sym (or_none o) ∙ earliest_added f n o None e h
 
 -- all is well with a field
 pub unless_none : (x : Bool) (j : ℕ) → unless x j ≡ None → x ≡ true

@@ -1,5 +1,5 @@
 -- The check's answer, computed, is the one that the relation tells. Assumes nothing.
-use Rattle.std.proofs.Common.{◌≡◌, ℕ, zero, suc, ◌+◌, ◌*◌, ◌<◌, ◌≤◌, Bool, true, false, cond, ◌&&◌, eqb, ltb, leb, ◌⊎◌, List, length, Some, None, Err, Option, sym, refl, ap, ◌∙◌, subst, ap₂, inl, inr, ⊎_elim, mul-le-mul_left, mul-add, arith}
+use Rattle.std.proofs.Common.{◌≡◌, ℕ, zero, suc, ◌+◌, ◌*◌, ◌<◌, ◌≤◌, Bool, true, false, cond, ◌&&◌, ◌||◌, eqb, ltb, leb, ◌⊎◌, List, length, Some, None, Err, Option, sym, refl, ap, ◌∙◌, subst, ap₂, inl, inr, ⊎_elim, mul-le-mul_left, mul-add, arith}
 use Rattle.ledger.specs.Held.{heads, most_places}
 use Rattle.ledger.specs.Answers.{its_number}
 use Rattle.std.proofs.lemmas.Bool.{and_parts, and_from, or_cases, or_parts, or_from, or_left, or_right, eq-eqb, ne_eqb, lt-ltb, le-ltb, le-leb, eqb-true, eqb-false, ltb-true, ltb-false, leb-true, both_ways, cases_order, cases_eq}
@@ -9,6 +9,7 @@ use Rattle.drawer_image.specs.Fields.{amount_at, is_promise, is_settled, is_free
 use Rattle.drawer_image.specs.Sections.{promise_of, free_in, bad_in, allowed, unless, covered, section_of}
 use Rattle.drawer_image.specs.Checks.{count_fits, earliest, bad_of, uncovered_of, refused_at, checked}
 use Rattle.drawer_image.specs.Judged.{Allowed, AllAllowed, Uncovered, EarliestBad, EarliestUncovered, Counted, Long, Judged}
+use Rattle.drawer_image.proofs.Fields.{promises_none}
 use Rattle.drawer_image.proofs.Earliest.{unless_none, option_parts, earliest_each, earliest_first}
 
 -- no free field among n
@@ -108,9 +109,12 @@ earliest_bad bs k place e =
     }
 
 -- a promise without a free field
+covered_when : (bs : List ℕ) (k h : ℕ) → covered (section_of bs (promise_of k h) k) ≡ (eqb (amount_at bs (promise_of k h)) 0 || ltb 0 (free_in bs (promise_of k h) k))
+covered_when bs k h = ap (λ x. x || ltb 0 (free_in bs (promise_of k h) k)) (promises_none bs (promise_of k h))
+
 is_uncovered : (bs : List ℕ) (k h : ℕ) → covered (section_of bs (promise_of k h) k) ≡ false → Uncovered bs k h
 is_uncovered bs k h e =
-    let p = or_parts (eqb (amount_at bs (promise_of k h)) 0) (ltb 0 (free_in bs (promise_of k h) k)) e in
+    let p = or_parts (eqb (amount_at bs (promise_of k h)) 0) (ltb 0 (free_in bs (promise_of k h) k)) (sym (covered_when bs k h) ∙ e) in
     let ne = eqb-false (amount_at bs (promise_of k h)) 0 p.0 in
     let z = ltb-false 0 (free_in bs (promise_of k h) k) p.1 in
     (omega (arith, ne), free_zero bs (promise_of k h) k (omega arith))
@@ -118,7 +122,8 @@ is_uncovered bs k h e =
 uncovered_by : (bs : List ℕ) (k h : ℕ) → Uncovered bs k h → covered (section_of bs (promise_of k h) k) ≡ false
 uncovered_by bs k h u =
     let z = zero_free bs (promise_of k h) k u.1 in
-    or_from (eqb (amount_at bs (promise_of k h)) 0) (ltb 0 (free_in bs (promise_of k h) k))
+    covered_when bs k h
+    ∙ or_from (eqb (amount_at bs (promise_of k h)) 0) (ltb 0 (free_in bs (promise_of k h) k))
     (ne_eqb (amount_at bs (promise_of k h)) 0 (λ e. omega (arith, u.0))) (le-ltb 0 (free_in bs (promise_of k h) k) (omega arith))
 
 not_uncovered : (bs : List ℕ) (k h : ℕ) → uncovered_of bs k h ≡ None → Uncovered bs k h → ⊥

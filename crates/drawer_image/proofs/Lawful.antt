@@ -1,12 +1,13 @@
 -- What every section that holds something keeps: a bound on its total and its free fields. Assumes nothing.
-use Rattle.std.proofs.Common.{◌≡◌, ℕ, zero, suc, ◌+◌, ◌*◌, ◌<◌, ◌≤◌, Bool, true, false, cond, ◌&&◌, eqb, ltb, leb, List, None, refl, ⊎_elim, arith}
-use Rattle.std.proofs.lemmas.Bool.{cond_both, and_parts, leb-true, eqb-true, ltb-true, or_cases, both_ways}
-use Rattle.ledger.specs.Held.{heads, most_amount, most_places, most_total}
+use Rattle.std.proofs.Common.{◌≡◌, ℕ, zero, suc, ◌+◌, ◌*◌, ◌<◌, ◌≤◌, Bool, true, false, cond, not, ◌&&◌, ◌||◌, eqb, ltb, leb, ◌≢◌, List, is_some, Some, None, sym, refl, ap, ◌∙◌, arith}
+use Rattle.std.proofs.lemmas.Bool.{cond_both, and_parts, leb-true, eqb-false, ltb-true, both_ways}
+use Rattle.ledger.specs.Held.{heads, Amount, most_amount, most_places, most_total}
 use Rattle.drawer_image.specs.declared.section.Section.{Section}
 use Rattle.drawer_image.specs.Fields.{amount_at, headed, is_promise, is_settled, is_free}
 use Rattle.drawer_image.specs.Sections.{promise_of, free_in, credited_in, bad_in, section_of}
 use Rattle.drawer_image.specs.Checks.{sized, sound, section_at, empty_section}
-use Rattle.drawer_image.proofs.Walks.{settled_most, free_unsettled}
+use Rattle.drawer_image.proofs.Fields.{free_unsettled}
+use Rattle.drawer_image.proofs.Walks.{settled_most}
 use Rattle.drawer_image.proofs.Judges.{good_each}
 use Rattle.drawer_image.proofs.Sounds.{Sound, is_sized, is_sound}
 
@@ -29,22 +30,27 @@ promise_good bs b n e = good_each bs b n e 0 (omega arith)
 
 pub record Lawful (s : Section) : Type 0 where
   pub few : s.credited + most_amount * s.free ≤ most_total
-  pub most : s.promised ≤ most_amount
-  pub some : 0 < s.promised → 0 < s.free
+  pub amount : Amount s.promised
+  pub some : is_some s.promised ≡ true → 0 < s.free
 
 lawful_empty : Lawful empty_section
-lawful_empty = record { few = omega arith; most = omega arith; some = λ p. omega arith }
+lawful_empty = record { few = omega arith; amount = (omega arith, omega arith); some = λ p. absurd cc }
 
 lawful_sound : (bs : List ℕ) (k b : ℕ) → k ≤ most_places → Sound bs k b → Lawful (section_of bs b k)
 unfolding is_promise
 lawful_sound bs k b le s =
     record {
       few = omega (arith, each bs b k);
-      most = leb-true (amount_at bs b) most_amount (and_parts (headed bs b 0x50) (leb (amount_at bs b) most_amount) (promise_good bs b k s.good)).1;
-      some = λ p.
-          ⊎_elim (λ z. absurd (let q = eqb-true (amount_at bs b) 0 z in omega arith)) (λ l. ltb-true 0 (free_in bs b k) l)
-          (or_cases (eqb (amount_at bs b) 0) (ltb 0 (free_in bs b k)) s.backs);
+      amount = amount (eqb (amount_at bs b) 0) (eqb-false (amount_at bs b) 0);
+      some = λ p. ltb-true 0 (free_in bs b k) (sym (ap (λ x. not x || ltb 0 (free_in bs b k)) p) ∙ s.backs);
     }
+  where
+    most : amount_at bs b ≤ most_amount
+    most = leb-true (amount_at bs b) most_amount (and_parts (headed bs b 0x50) (leb (amount_at bs b) most_amount) (promise_good bs b k s.good)).1
+
+    amount : (z : Bool) → (z ≡ false → amount_at bs b ≢ 0) → Amount (cond z None (Some (amount_at bs b)))
+    amount true ne = (omega arith, omega arith)
+    amount false ne = let n = ne refl in (omega arith, most)
 
 pub lawful_at : (bs : List ℕ) (k h : ℕ) → Lawful (section_at bs k h)
 unfolding section_at

@@ -1,3 +1,4 @@
+pub mod Fields
 pub mod Walks
 pub mod Earliest
 pub mod Sounds

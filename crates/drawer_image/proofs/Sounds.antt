@@ -1,6 +1,7 @@
 -- Sections that hold something. Assumes empty_section.
-use Rattle.std.proofs.Common.{◌≡◌, ℕ, ◌+◌, ◌*◌, ◌<◌, ◌≤◌, Bool, true, false, cond, not, ◌&&◌, eqb, ltb, leb, List, length, is_some, is_err, Some, None, Ok, Err, Option, sym, refl, ap, ◌∙◌, ap₂, ⊎_elim, arith}
-use Rattle.std.proofs.lemmas.Bool.{cond-true, cond-false, and_parts, and_from, and_left, and_right, le-leb, le-ltb, lt-ltb, eq-eqb, leb-true, ltb-true, eqb-true, both_ways, not-true, not-false, cases_Bool}
+use Rattle.std.proofs.Common.{◌≡◌, ℕ, ◌+◌, ◌*◌, ◌<◌, ◌≤◌, Bool, true, false, cond, not, ◌&&◌, eqb, ltb, leb, List, length, is_some, is_ok, Some, None, Ok, Err, Option, sym, refl, ap, ◌∙◌, ap₂, ⊎_elim, arith}
+use Rattle.std.proofs.lemmas.Bool.{cond-true, cond-false, and_parts, and_from, and_left, and_right, le-leb, le-ltb, lt-ltb, eq-eqb, leb-true, ltb-true, eqb-true, both_ways, cases_Bool}
+use Rattle.std.specs.Result.{result_ok}
 use Rattle.ledger.specs.Held.{heads, most_places}
 use Rattle.ledger.specs.Answers.{its_number}
 use Rattle.drawer_image.specs.declared.fault.DrawerFault.TheVariants.{BadCount, BadLength}
@@ -27,22 +28,24 @@ pub sized_by : (bs : List ℕ) (k : ℕ) → Sized bs k → sized bs k ≡ true
 sized_by bs k s = and_from (count_fits k) (eqb (length bs) (98 * (k + 1))) (and_from (ltb 0 k) (leb k most_places) (lt-ltb 0 k s.some) (le-leb k most_places s.few)) (eq-eqb _ _ s.long)
 
 -- what the check of the size tells
-size_tells : (bs : List ℕ) (k : ℕ) → is_err (size_answer (length bs) k) ≡ not (sized bs k)
+size_tells : (bs : List ℕ) (k : ℕ) → is_ok (size_answer (length bs) k) ≡ sized bs k
 size_tells bs k = go (count_fits k) (eqb (length bs) (98 * (k + 1)))
   where
     size : Bool → Bool → Answer
     size x y = cond x (cond y (Ok tt) (Err (BadLength its_number))) (Err (BadCount its_number))
 
-    go : (x y : Bool) → is_err (size x y) ≡ not (x && y)
+    go : (x y : Bool) → is_ok (size x y) ≡ (x && y)
     go true true = refl
     go true false = refl
     go false y = refl
 
-pub size_refused : (bs : List ℕ) (k : ℕ) (r : Answer) → r ≡ size_answer (length bs) k → true ≡ is_err r → sized bs k ≡ false
-size_refused bs k r e x = not-true (sized bs k) (sym (x ∙ ap (λ (a : Answer). is_err a) e ∙ size_tells bs k))
+pub size_refused : (bs : List ℕ) (k : ℕ) (r : Answer) → r ≡ size_answer (length bs) k → None ≡ result_ok r → sized bs k ≡ false
+size_refused bs k (Ok u) e x = absurd cc
+size_refused bs k (Err f) e x = sym (ap (λ (a : Answer). is_ok a) e ∙ size_tells bs k)
 
-pub size_accepted : (bs : List ℕ) (k : ℕ) (r : Answer) → r ≡ size_answer (length bs) k → false ≡ is_err r → Sized bs k
-size_accepted bs k r e x = is_sized bs k (not-false (sized bs k) (sym (x ∙ ap (λ (a : Answer). is_err a) e ∙ size_tells bs k)))
+pub size_accepted : (bs : List ℕ) (k : ℕ) (u : Unit {0}) (r : Answer) → r ≡ size_answer (length bs) k → Some u ≡ result_ok r → Sized bs k
+size_accepted bs k u (Ok v) e x = is_sized bs k (sym (ap (λ (a : Answer). is_ok a) e ∙ size_tells bs k))
+size_accepted bs k u (Err f) e x = absurd cc
 
 none_bad : (o : Option ℕ) → not (is_some o) ≡ true → o ≡ None
 none_bad None e = refl

@@ -1,11 +1,16 @@
 -- One bill more of a section, and what is known of it. Assumes nothing.
-use Rattle.std.proofs.Common.{◌≡◌, ℕ, zero, suc, ◌+◌, ◌-◌, ◌*◌, ◌≤◌, true, false, cond, ◌&&◌, ◌||◌, eqb, List, Some, None, Ok, Err, Option, sym, refl, ap, ◌∙◌, ap₂, add-one, arith}
+use Rattle.std.proofs.Common.{◌≡◌, ℕ, zero, suc, ◌+◌, ◌-◌, ◌*◌, ◌<◌, ◌≤◌, true, false, cond, ◌&&◌, ◌||◌, eqb, List, Some, None, Err, Option, Result, sym, refl, ap, ◌∙◌, ap₂, add-one, arith}
 use Rattle.std.proofs.lemmas.Bool.{or_right, or_from}
 use Rattle.std.proofs.lemmas.Bool.Decides.{nat_tests}
 use Rattle.std.specs.Option.{option_or}
+use Rattle.std.specs.Result.{result_ok}
 use Rattle.ledger.specs.Held.{most_amount}
+use Rattle.drawer_image.proofs.Fields.{free_unsettled, settled_unfree}
 use Rattle.drawer_image.specs.Fields.{amount_at, is_promise, is_settled, is_free}
+use Rattle.ledger.specs.Answers.{its_number}
 use Rattle.drawer_image.specs.declared.section.Section.{Section}
+use Rattle.drawer_image.specs.declared.fault.DrawerFault.{DrawerFault}
+use Rattle.drawer_image.specs.declared.fault.DrawerFault.TheVariants.{BadField}
 use Rattle.drawer_image.specs.Sections.{free_in, credited_in, bad_in, unless, allowed, read_of}
 
 next : (b i : ℕ) → b + suc i ≡ b + i + 1
@@ -45,14 +50,10 @@ bad_stays bs b n (suc d) j e =
     let z : n + suc d ≡ suc (n + d) = omega arith in
     ap (bad_in bs b) z ∙ ap (λ o. option_or o (unless (allowed bs b (n + d)) (b + suc (n + d)))) (bad_stays bs b n d j e)
 
--- a settled bill is no free field, and at most the largest amount
+-- a settled bill is at most the largest amount
 pub settled_most : (bs : List ℕ) (j : ℕ) → is_settled bs j ≡ true → amount_at bs j ≤ most_amount
 unfolding is_settled
 settled_most bs j e = grind (arith, nat_tests)
-
-pub free_unsettled : (bs : List ℕ) (j : ℕ) → is_free bs j ≡ true → is_settled bs j ≡ false
-unfolding is_settled is_free
-free_unsettled bs j e = grind (arith, nat_tests)
 
 -- one bill more: a free one, a settled one, a bad one
 pub after_free : (bs : List ℕ) (b i : ℕ) → bad_in bs b i ≡ None → is_free bs (b + i + 1) ≡ true → (bad_in bs b (i + 1) ≡ None) × (free_in bs b (i + 1) ≡ free_in bs b i + 1) × (credited_in bs b (i + 1) ≡ credited_in bs b i)
@@ -61,10 +62,6 @@ after_free bs b i e f = (
   free_more bs b i ∙ ap (λ x. free_in bs b i + cond x 1 0) f,
   (let s = sum_more bs b i ∙ ap (λ x. credited_in bs b i + cond x (amount_at bs (b + i + 1)) 0) (free_unsettled bs (b + i + 1) f) in omega arith),
 )
-
-pub settled_unfree : (bs : List ℕ) (j : ℕ) → is_settled bs j ≡ true → is_free bs j ≡ false
-unfolding is_settled is_free
-settled_unfree bs j e = grind (arith, nat_tests)
 
 pub after_settled : (bs : List ℕ) (b i : ℕ) → bad_in bs b i ≡ None → free_in bs b i ≡ 0 → is_settled bs (b + i + 1) ≡ true → (bad_in bs b (i + 1) ≡ None) × (free_in bs b (i + 1) ≡ free_in bs b i) × (credited_in bs b (i + 1) ≡ credited_in bs b i + amount_at bs (b + i + 1))
 after_settled bs b i e z f = (
@@ -79,11 +76,21 @@ after_bad bs b i e f s = bad_more bs b i ∙ ap₂ (λ o x. option_or o (unless 
 pub bad_by : (bs : List ℕ) (b n m j : ℕ) → bad_in bs b n ≡ Some j → n ≤ m → bad_in bs b m ≡ Some j
 bad_by bs b n m j e le = let z : n + (m - n) ≡ m = omega arith in ap (bad_in bs b) (sym z) ∙ bad_stays bs b n (m - n) j e
 
--- what was read
-pub read_ok : (o : Option ℕ) (s t : Section) → Ok t ≡ read_of o s → (o ≡ None) × (t ≡ s)
-read_ok None s t e = (refl, cc)
-read_ok (Some j) s t e = absurd (let z : ◌≡◌ {A = ℕ} 0 1 = cc in omega arith)
+-- a promise, a bad one, and a bad field for a bill
+pub good_first : (bs : List ℕ) (b : ℕ) → is_promise bs b ≡ true → bad_in bs b 0 ≡ None
+good_first bs b e = bad_none bs b ∙ ap (λ x. unless x b) e
 
-pub read_err : (o : Option ℕ) (s : Section) (j : ℕ) → Err j ≡ read_of o s → o ≡ Some j
-read_err None s j e = absurd (let z : ◌≡◌ {A = ℕ} 0 1 = cc in omega arith)
-read_err (Some i) s j e = cc
+pub bad_first : (bs : List ℕ) (b n : ℕ) (s : Section) → is_promise bs b ≡ false → Err (BadField its_number (7 * b)) ≡ read_of (bad_in bs b n) s
+bad_first bs b n s e = ap (λ o. read_of o s) (sym (bad_by bs b 0 n (7 * b) (bad_none bs b ∙ ap (λ x. unless x b) e) (omega arith)))
+
+pub bad_bill : (bs : List ℕ) (b i n : ℕ) (s : Section) → bad_in bs b i ≡ None → i < n → is_free bs (b + i + 1) ≡ false → (eqb (free_in bs b i) 0 && is_settled bs (b + i + 1)) ≡ false → Err (BadField its_number (7 * (b + i + 1))) ≡ read_of (bad_in bs b n) s
+bad_bill bs b i n s good lt f t = ap (λ o. read_of o s) (sym (bad_by bs b (i + 1) n (7 * (b + i + 1)) (after_bad bs b i good f t) (omega arith)))
+
+-- what was read
+pub read_ok : (o : Option ℕ) (s t : Section) (r : Result Section DrawerFault) → r ≡ read_of o s → Some t ≡ result_ok r → (o ≡ None) × (t ≡ s)
+read_ok None s t r e x = let y = x ∙ ap (λ (z : Result Section DrawerFault). result_ok z) e in (refl, cc)
+read_ok (Some j) s t r e x = absurd (let y = x ∙ ap (λ (z : Result Section DrawerFault). result_ok z) e in cc)
+
+pub read_err : (o : Option ℕ) (s : Section) (r : Result Section DrawerFault) → r ≡ read_of o s → None ≡ result_ok r → (j : ℕ) × (o ≡ Some j) × (r ≡ Err (BadField its_number j))
+read_err None s r e x = absurd (let y = x ∙ ap (λ (z : Result Section DrawerFault). result_ok z) e in cc)
+read_err (Some i) s r e x = (i, refl, e)

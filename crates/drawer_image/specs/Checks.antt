@@ -71,7 +71,7 @@ Passes bs k = checked bs k ≡ Ok tt
 
 -- a section that says nothing
 abbrev pub empty_section : Section
-empty_section = record { promised = 0; credited = 0; free = 0 }
+empty_section = record { promised = None; credited = 0; free = 0 }
 
 abbrev pub sound : List ℕ → ℕ → ℕ → Bool
 sound bs b k = not (is_some (bad_in bs b k)) && covered (section_of bs b k)

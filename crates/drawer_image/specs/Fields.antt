@@ -7,10 +7,15 @@
 --   is_promise bs j   it is a promise: tag 50H, length 4, amount 0 to 255,000,000
 --   is_settled bs j   it is a settled bill: tag 43H, length 4, amount 1 to 255,000,000
 --   is_free bs j      it is free: tag 00H, length 4, amount 0
+--   promised_at bs j  the amount that it promises if it is a promise, or none: 0 promises nothing
+--   field_at bs j     what it is: a promise, a settled bill, free, or none of these
+--   AreFields fs bs b fs are the fields of bs from field b on
 --
 -- Assumes nothing.
-use Rattle.std.specs.Prelude.{ℕ, ◌+◌, ◌*◌, Bool, ◌&&◌, List, ◌==◌, nat_le, slice_index}
+use Rattle.std.specs.Prelude.{◌≡◌, ℕ, ◌+◌, ◌*◌, ◌<◌, Bool, cond, ◌&&◌, List, [], length, take, drop, Some, None, Option, ◌==◌, nat_le, slice_index, slice_index_or}
 use Rattle.ledger.specs.Held.{most_amount}
+use Rattle.drawer_image.specs.declared.field.Field.{Field}
+use Rattle.drawer_image.specs.declared.field.Field.TheVariants.{Promise, Settled, Free}
 
 abbrev pub tag_at : List ℕ → ℕ → ℕ
 tag_at bs j = slice_index bs (7 * j)
@@ -36,3 +41,15 @@ is_settled bs j = headed bs j 0x43 && (nat_le 1 (amount_at bs j) && nat_le (amou
 
 unfoldable pub is_free : List ℕ → ℕ → Bool
 is_free bs j = headed bs j 0x00 && amount_at bs j == 0
+
+abbrev pub promised_at : List ℕ → ℕ → Option ℕ
+promised_at bs j = cond (amount_at bs j == 0) None (Some (amount_at bs j))
+
+abbrev pub field_at : List ℕ → ℕ → Option Field
+field_at bs j =
+    cond (is_promise bs j) (Some (Promise (promised_at bs j)))
+    (cond (is_settled bs j) (Some (Settled (amount_at bs j)))
+    (cond (is_free bs j) (Some Free) None))
+
+pub record AreFields (fs : List (List ℕ)) (bs : List ℕ) (b : ℕ) : Type 0 where
+  pub each : (i : ℕ) → i < length fs → slice_index_or fs i [] ≡ take 7 (drop (7 * (b + i)) bs)

@@ -6,16 +6,18 @@
 --   credited_in bs b n   the sum of the settled bills among them
 --   section_of bs b k    what the section says whose promise is field b
 --   covered s            a promised amount has a free field
---   promised_in s        the promised amount, or none
 --   places_in s          the places: the free fields, less 1 if an amount is promised
 --   bad_in bs b n        the place of the earliest bad field among the promise b and n fields behind it
---   read_of bad s        a section as it is read: what it says, or the place of a bad field
+--   read_of bad s        a section as it is read: what it says, or the refusal of the bad field at a place
 --
 -- Assumes nothing.
-use Rattle.std.specs.Prelude.{ℕ, zero, suc, ◌+◌, ◌-◌, ◌*◌, Bool, cond, ◌&&◌, ◌||◌, List, Some, None, Ok, Err, Option, Result, ◌==◌, nat_lt}
+use Rattle.std.specs.Prelude.{ℕ, zero, suc, ◌+◌, ◌-◌, ◌*◌, Bool, cond, not, ◌&&◌, ◌||◌, List, is_some, Some, None, Ok, Err, Option, Result, ◌==◌, nat_lt}
 use Rattle.std.specs.Option.{option_or}
+use Rattle.ledger.specs.Answers.{its_number}
+use Rattle.drawer_image.specs.declared.fault.DrawerFault.{DrawerFault}
+use Rattle.drawer_image.specs.declared.fault.DrawerFault.TheVariants.{BadField}
 use Rattle.drawer_image.specs.declared.section.Section.{Section}
-use Rattle.drawer_image.specs.Fields.{amount_at, is_promise, is_settled, is_free}
+use Rattle.drawer_image.specs.Fields.{amount_at, promised_at, is_promise, is_settled, is_free}
 
 abbrev pub promise_of : ℕ → ℕ → ℕ
 promise_of k h = (k + 1) * h
@@ -29,16 +31,13 @@ credited_in bs b zero = 0
 credited_in bs b (suc n) = credited_in bs b n + cond (is_settled bs (b + suc n)) (amount_at bs (b + suc n)) 0
 
 abbrev pub section_of : List ℕ → ℕ → ℕ → Section
-section_of bs b k = record { promised = amount_at bs b; credited = credited_in bs b k; free = free_in bs b k }
+section_of bs b k = record { promised = promised_at bs b; credited = credited_in bs b k; free = free_in bs b k }
 
 abbrev pub covered : Section → Bool
-covered s = s.promised == 0 || nat_lt 0 s.free
-
-abbrev pub promised_in : Section → Option ℕ
-promised_in s = cond (s.promised == 0) None (Some s.promised)
+covered s = not (is_some s.promised) || nat_lt 0 s.free
 
 abbrev pub places_in : Section → ℕ
-places_in s = s.free - cond (s.promised == 0) 0 1
+places_in s = s.free - cond (is_some s.promised) 1 0
 
 -- field b + n + 1 is what its position allows: free, or settled with no free field before it
 abbrev pub allowed : List ℕ → ℕ → ℕ → Bool
@@ -52,6 +51,6 @@ unfoldable pub bad_in : List ℕ → ℕ → ℕ → Option ℕ
 bad_in bs b zero = unless (is_promise bs b) b
 bad_in bs b (suc n) = option_or (bad_in bs b n) (unless (allowed bs b n) (b + suc n))
 
-abbrev pub read_of : Option ℕ → Section → Result Section ℕ
+abbrev pub read_of : Option ℕ → Section → Result Section DrawerFault
 read_of None s = Ok s
-read_of (Some place) s = Err place
+read_of (Some place) s = Err (BadField its_number place)

@@ -1,47 +1,58 @@
-ghost use Rattle.std.specs.Prelude.{◌≡◌, ℕ, ◌+◌, ◌*◌, ◌≤◌, length};
-ghost use Rattle.drawer_image.specs.Fields.{headed, amount_at, is_promise, is_settled, is_free};
+ghost use Rattle.std.specs.Prelude.{◌≡◌, ℕ, ◌*◌, ◌/◌, ◌^◌, ◌<◌, length};
+ghost use Rattle.ledger.specs.Answers.{its_number};
+ghost use Rattle.drawer_image.specs.declared.fault.DrawerFault.TheVariants.{BadField};
+ghost use Rattle.drawer_image.specs.Fields.{field_at, AreFields};
 
+use crate::fault::DrawerFault;
+use crate::{FIELD, FREE_TAG, PROMISE_TAG, SETTLED_TAG};
 use ledger::MOST_AMOUNT;
+use number::Number;
 
-// The amount of a field.
-pub fn amount(bytes: &[u8], field: usize) -> u32
-    requires { 7 * field + 7 ≤ length bytes.now }
-    ensures { result ≡ amount_at bytes.now field }
-{
-    let at = 7 * field;
-    u32::from_le_bytes([bytes[at + 3], bytes[at + 4], bytes[at + 5], bytes[at + 6]])
+// What the bytes of a field say: a promise, of an amount or of none, a settled bill, or that it is free for one.
+#[derive(Clone, Copy)]
+pub enum Field {
+    Promise(Option<u32>),
+    Settled(u32),
+    Free,
 }
 
-// Whether a field has this tag, and the length 4.
-fn is_headed(bytes: &[u8], field: usize, tag: u8) -> bool
-    requires { 7 * field + 7 ≤ length bytes.now }
-    ensures { result ≡ headed bytes.now field tag }
-{
-    let at = 7 * field;
-    bytes[at] == tag && u16::from_le_bytes([bytes[at + 1], bytes[at + 2]]) == 4
+impl Field {
+    // What seven bytes are as a field, if they are one.
+    #[tactic(auto, unfolding(crate::specs::Fields::is_promise, crate::specs::Fields::is_settled, crate::specs::Fields::is_free))]
+    pub fn read(bytes: [u8; FIELD]) -> Option<Field>
+        ensures { result ≡ field_at bytes 0 }
+    {
+        let [tag, low, high, a, b, c, d] = bytes;
+        if u16::from_le_bytes([low, high]) != 4 {
+            return None;
+        }
+        let amount = u32::from_le_bytes([a, b, c, d]);
+        if amount > MOST_AMOUNT {
+            return None;
+        }
+        match tag {
+            PROMISE_TAG if amount == 0 => Some(Field::Promise(None)),
+            PROMISE_TAG => Some(Field::Promise(Some(amount))),
+            SETTLED_TAG if amount > 0 => Some(Field::Settled(amount)),
+            FREE_TAG if amount == 0 => Some(Field::Free),
+            _ => None,
+        }
+    }
 }
 
-// Whether a field is a promise, of an amount or of none.
-pub fn is_promise(bytes: &[u8], field: usize) -> bool
-    requires { 7 * field + 7 ≤ length bytes.now }
-    ensures { result ≡ is_promise bytes.now field }
+// The fields of a drawer's bytes.
+pub(crate) fn fields_of(bytes: &[u8]) -> &[[u8; FIELD]]
+    ensures long { length result.now ≡ length bytes.now / 7 }
+    ensures fields { AreFields result.now bytes.now 0 }
 {
-    is_headed(bytes, field, 0x50) && amount(bytes, field) <= MOST_AMOUNT
+    let (fields, _) = bytes.as_chunks::<FIELD>();
+    fields
 }
 
-// Whether a field is a settled bill.
-pub fn is_settled(bytes: &[u8], field: usize) -> bool
-    requires { 7 * field + 7 ≤ length bytes.now }
-    ensures { result ≡ is_settled bytes.now field }
+// The refusal of a field, by its place.
+pub(crate) fn bad_field(field: usize) -> DrawerFault
+    requires { field < 2 ^ 32 }
+    ensures { result ≡ BadField its_number (7 * field) }
 {
-    let amount = amount(bytes, field);
-    is_headed(bytes, field, 0x43) && 1 <= amount && amount <= MOST_AMOUNT
-}
-
-// Whether a field is free for a bill.
-pub fn is_free(bytes: &[u8], field: usize) -> bool
-    requires { 7 * field + 7 ≤ length bytes.now }
-    ensures { result ≡ is_free bytes.now field }
-{
-    is_headed(bytes, field, 0x00) && amount(bytes, field) == 0
+    DrawerFault::BadField(Number, FIELD * field)
 }

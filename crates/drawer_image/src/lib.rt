@@ -11,3 +11,15 @@ pub mod fault;
 mod field;
 pub mod section;
 pub mod size;
+
+// How many bytes a field has.
+pub const FIELD: usize = 7;
+
+// The tag of the field of a promise, of an amount or of none.
+pub const PROMISE_TAG: u8 = 0x50;
+
+// The tag of a settled bill.
+pub const SETTLED_TAG: u8 = 0x43;
+
+// The tag of a free field.
+pub const FREE_TAG: u8 = 0x00;

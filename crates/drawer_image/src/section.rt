@@ -1,17 +1,19 @@
-ghost use Rattle.std.specs.Prelude.{◌≡◌, ℕ, ◌+◌, ◌-◌, ◌*◌, ◌<◌, ◌≤◌, length};
+ghost use Rattle.std.specs.Prelude.{◌≡◌, ℕ, ◌+◌, ◌-◌, ◌*◌, ◌<◌, ◌≤◌, List, length};
+ghost use Rattle.std.specs.Option.{unwrap_or};
 ghost use Rattle.ledger.specs.Held.{most_places};
-ghost use Rattle.drawer_image.specs.Sections.{bad_in, section_of, read_of, covered, promised_in, places_in};
-ghost use Rattle.drawer_image.specs.Checks.{section_at};
+ghost use Rattle.drawer_image.specs.Fields.{AreFields};
+ghost use Rattle.drawer_image.specs.Sections.{bad_in, section_of, read_of, covered, places_in};
+ghost use Rattle.drawer_image.specs.Checks.{section_at, empty_section};
 
-use crate::field::{amount, is_free, is_promise, is_settled};
+use crate::FIELD;
+use crate::fault::DrawerFault;
+use crate::field::{Field, bad_field, fields_of};
 use crate::size::check_size;
-use ledger::HEADS;
 
-// What a section says: the promised amount, 0 for none, the sum of its settled bills, and how many of its
-// fields are free.
-#[derive(Clone, Copy, Debug, PartialEq, Eq)]
+// What a section says: the promised amount, the sum of its settled bills, and how many of its fields are free.
+#[derive(Clone, Copy, Debug, Default, PartialEq, Eq)]
 pub struct Section {
-    pub promised: u32,
+    pub promised: Option<u32>,
     pub credited: u64,
     pub free: u16,
 }
@@ -21,84 +23,64 @@ impl Section {
     pub fn is_covered(&self) -> bool
         ensures { result ≡ covered self.now }
     {
-        self.promised == 0 || self.free > 0
-    }
-
-    // The promised amount.
-    pub fn promised(&self) -> Option<u32>
-        ensures { result ≡ promised_in self.now }
-    {
-        if self.promised == 0 {
-            None
-        } else {
-            Some(self.promised)
-        }
+        self.promised.is_none() || self.free > 0
     }
 
     // The places: the free fields, less the one that a promised amount will take.
     pub fn places(&self) -> u16
         ensures { result ≡ places_in self.now }
     {
-        if self.promised == 0 {
-            self.free
-        } else {
-            self.free.saturating_sub(1)
+        match self.promised {
+            None => self.free,
+            Some(_) => self.free.saturating_sub(1),
         }
     }
 }
 
-// What the section says whose promise is the field `first`, or the place of its earliest bad field.
-pub(crate) fn read_section(bytes: &[u8], first: usize, bills: usize) -> Result<Section, usize>
-    requires few { bills ≤ most_places }
-    requires room { 7 * (first + bills) + 7 ≤ length bytes.now }
-    ensures { result ≡ read_of (bad_in bytes.now first bills) (section_of bytes.now first bills) }
+// What a section says, of which these are the fields, or the refusal of its earliest bad field. The first of them
+// is the promise, and the drawer's field `first`.
+pub(crate) fn read_section(fields: &[[u8; FIELD]], first: usize) -> Result<Section, DrawerFault>
+    requires promise { 0 < length fields.now }
+    requires few { length fields.now ≤ most_places + 1 }
+    requires near { first ≤ 14 * most_places + 14 }
+    ensures { (bs : List ℕ) → AreFields fields.now bs first → result ≡ read_of (bad_in bs first (length fields.now - 1)) (section_of bs first (length fields.now - 1)) }
 {
-    if !is_promise(bytes, first) {
-        return Err(7 * first);
-    }
+    let bad = bad_field(first);
+    let Field::Promise(promised) = Field::read(fields[0]).ok_or(bad)? else {
+        return Err(bad);
+    };
     let mut credited: u64 = 0;
     let mut free: u16 = 0;
-    for i in 0..bills {
-        let field = first + i + 1;
-        if is_free(bytes, field) {
-            free += 1;
-        } else if free == 0 && is_settled(bytes, field) {
-            credited += u64::from(amount(bytes, field));
-        } else {
-            return Err(7 * field);
+    for (bill, field) in fields[1..].iter().enumerate() {
+        let bad = bad_field(first + bill + 1);
+        match Field::read(*field).ok_or(bad)? {
+            Field::Free => free += 1,
+            Field::Settled(amount) if free == 0 => credited += u64::from(amount),
+            _ => return Err(bad),
         }
     }
     Ok(Section {
-        promised: amount(bytes, first),
+        promised,
         credited,
         free,
     })
+}
+
+// The section of a head, if there is such a head, the size of the bytes is right and the section passes the check.
+fn sound_section(bytes: &[u8], bills: u16, head: u8) -> Option<Section>
+    ensures { unwrap_or result empty_section ≡ section_at bytes.now bills head }
+{
+    check_size(bytes.len(), bills).ok()?;
+    let many = bills as usize + 1;
+    let first = many * head as usize;
+    let fields = fields_of(bytes).get(first..first + many)?;
+    let section = read_section(fields, first).ok()?;
+    section.is_covered().then_some(section)
 }
 
 // What the section of a head holds: nothing where the section would not pass the check, or there is no such head.
 pub fn section_of(bytes: &[u8], bills: u16, head: u8) -> Section
     ensures { result ≡ section_at bytes.now bills head }
 {
-    let nothing = Section {
-        promised: 0,
-        credited: 0,
-        free: 0,
-    };
-    if head as usize >= HEADS {
-        return nothing;
-    }
-    if check_size(bytes.len(), bills).is_err() {
-        return nothing;
-    }
-    let bills = bills as usize;
-    match read_section(bytes, (bills + 1) * head as usize, bills) {
-        Ok(section) => {
-            if section.is_covered() {
-                section
-            } else {
-                nothing
-            }
-        }
-        Err(_) => nothing,
-    }
+    sound_section(bytes, bills, head).unwrap_or_default()
 }

@@ -2,15 +2,16 @@
 ghost use Rattle.std.specs.Prelude.{◌≡◌};
 ghost use Rattle.drawer_image.specs.Checks.{count_answer, size_answer};
 
+use crate::FIELD;
 use crate::fault::DrawerFault;
-use ledger::MOST_PLACES;
+use ledger::{HEADS, MOST_PLACES};
 use number::Number;
 
 // Whether a section can have so many fields for bills.
 pub fn check_count(bills: u16) -> Result<(), DrawerFault>
     ensures { result ≡ count_answer bills }
 {
-    if bills == 0 || bills > MOST_PLACES {
+    if !(1..=MOST_PLACES).contains(&bills) {
         return Err(DrawerFault::BadCount(Number));
     }
     Ok(())
@@ -21,7 +22,7 @@ pub fn check_size(length: usize, bills: u16) -> Result<(), DrawerFault>
     ensures { result ≡ size_answer length bills }
 {
     check_count(bills)?;
-    if length != 98 * (bills as usize + 1) {
+    if length != HEADS * FIELD * (bills as usize + 1) {
         return Err(DrawerFault::BadLength(Number));
     }
     Ok(())

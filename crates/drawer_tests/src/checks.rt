@@ -4,7 +4,7 @@ use drawer_fresh::write_fresh;
 use drawer_image::check::check;
 use drawer_image::fault::DrawerFault;
 use drawer_image::section::{Section, section_of};
-use number::Number;
+use number::{Number, Numbered};
 use std::test::Fail;
 
 // Each kind of field that its position does not allow, and its place.
@@ -92,7 +92,7 @@ fn fresh_bytes_pass_and_hold_nothing(rt: HostRuntime) -> Result<(), Fail> {
     assert_eq!(rt;
         section_of(&least, 1, 13),
         Section {
-            promised: 0,
+            promised: None,
             credited: 0,
             free: 1,
         }
@@ -103,7 +103,7 @@ fn fresh_bytes_pass_and_hold_nothing(rt: HostRuntime) -> Result<(), Fail> {
     assert_eq!(rt;
         section_of(most.as_slice(), 4000, 0),
         Section {
-            promised: 0,
+            promised: None,
             credited: 0,
             free: 4000,
         }
@@ -111,7 +111,7 @@ fn fresh_bytes_pass_and_hold_nothing(rt: HostRuntime) -> Result<(), Fail> {
     assert_eq!(rt;
         section_of(most.as_slice(), 4000, 14),
         Section {
-            promised: 0,
+            promised: None,
             credited: 0,
             free: 0,
         }

@@ -1,9 +1,9 @@
 // The calls on a drawer, and the bytes after them.
 use crate::images::*;
-use crate::script::*;
 use drawer::Drawer;
-use ledger::{Ledger, LedgerFault};
+use ledger::LedgerFault;
 use ledger_calls::Call;
+use ledger_script::{ALREADY_PROMISED, BAD_AMOUNT, NO_SUCH_HEAD, NONE_PROMISED, Step, asked, run};
 use number::Number;
 
 const NO_PLACE: LedgerFault = LedgerFault::NoPlace(Number, 0);
@@ -13,26 +13,29 @@ fn calls_are_refused_in_order_and_change_nothing(rt: HostRuntime) {
     let before = image(&[promise(0, FIVE), settled(28, ONE), settled(35, ONE)]);
     let mut bytes = before;
     let mut drawer = Drawer::new(&mut bytes, BILLS);
-    run(
-        &rt,
-        &mut drawer,
-        &[
-            Step(14, Call::Promise(0), Err(NO_SUCH_HEAD)),
-            Step(0, Call::Promise(0), Err(BAD_AMOUNT)),
-            Step(1, Call::Promise(255_000_001), Err(BAD_AMOUNT)),
-            Step(0, Call::Promise(1), Err(ALREADY_PROMISED)),
-            Step(1, Call::Promise(1), Err(NO_PLACE)),
-            Step(14, Call::Settle, Err(NO_SUCH_HEAD)),
-            Step(1, Call::Settle, Err(NONE_PROMISED)),
-            Step(14, Call::GiveBack, Err(NO_SUCH_HEAD)),
-            Step(1, Call::GiveBack, Err(NONE_PROMISED)),
-        ],
+    assert_eq!(rt;
+        run(
+            &mut drawer,
+            &[
+                Step(14, Call::Promise(0), Err(NO_SUCH_HEAD)),
+                Step(0, Call::Promise(0), Err(BAD_AMOUNT)),
+                Step(1, Call::Promise(255_000_001), Err(BAD_AMOUNT)),
+                Step(0, Call::Promise(1), Err(ALREADY_PROMISED)),
+                Step(1, Call::Promise(1), Err(NO_PLACE)),
+                Step(14, Call::Settle, Err(NO_SUCH_HEAD)),
+                Step(1, Call::Settle, Err(NONE_PROMISED)),
+                Step(14, Call::GiveBack, Err(NO_SUCH_HEAD)),
+                Step(1, Call::GiveBack, Err(NONE_PROMISED)),
+            ]
+        ),
+        Ok(())
     );
-    check_holds(&rt, &drawer, 0, Some(5), 0, 1);
-    check_holds(&rt, &drawer, 1, None, 2, 0);
-    assert_eq!(rt; drawer.promised(14), Err(NO_SUCH_HEAD));
-    assert_eq!(rt; drawer.credited(14), Err(NO_SUCH_HEAD));
-    assert_eq!(rt; drawer.places(14), Err(NO_SUCH_HEAD));
+    assert_eq!(rt; asked(&drawer, 0), (Ok(Some(5)), Ok(0), Ok(1)));
+    assert_eq!(rt; asked(&drawer, 1), (Ok(None), Ok(2), Ok(0)));
+    assert_eq!(rt;
+        asked(&drawer, 14),
+        (Err(NO_SUCH_HEAD), Err(NO_SUCH_HEAD), Err(NO_SUCH_HEAD))
+    );
     assert_eq!(rt; bytes, before);
 }
 
@@ -41,20 +44,22 @@ fn calls_are_refused_in_order_and_change_nothing(rt: HostRuntime) {
 fn bills_settle_into_the_first_free_field(rt: HostRuntime) {
     let mut bytes = image(&[]);
     let mut drawer = Drawer::new(&mut bytes, BILLS);
-    run(
-        &rt,
-        &mut drawer,
-        &[
-            Step(13, Call::Promise(255_000_000), Ok(())),
-            Step(13, Call::Settle, Ok(())),
-            Step(13, Call::Promise(1), Ok(())),
-            Step(13, Call::Settle, Ok(())),
-            Step(13, Call::Promise(1), Err(NO_PLACE)),
-            Step(0, Call::Promise(5), Ok(())),
-        ],
+    assert_eq!(rt;
+        run(
+            &mut drawer,
+            &[
+                Step(13, Call::Promise(255_000_000), Ok(())),
+                Step(13, Call::Settle, Ok(())),
+                Step(13, Call::Promise(1), Ok(())),
+                Step(13, Call::Settle, Ok(())),
+                Step(13, Call::Promise(1), Err(NO_PLACE)),
+                Step(0, Call::Promise(5), Ok(())),
+            ]
+        ),
+        Ok(())
     );
-    check_holds(&rt, &drawer, 13, None, 255_000_001, 0);
-    check_holds(&rt, &drawer, 0, Some(5), 0, 1);
+    assert_eq!(rt; asked(&drawer, 13), (Ok(None), Ok(255_000_001), Ok(0)));
+    assert_eq!(rt; asked(&drawer, 0), (Ok(Some(5)), Ok(0), Ok(1)));
     assert_eq!(rt;
         bytes,
         image(&[promise(0, FIVE), settled(280, MOST), settled(287, ONE)])
@@ -65,16 +70,18 @@ fn bills_settle_into_the_first_free_field(rt: HostRuntime) {
 fn a_promise_given_back_leaves_the_bytes_as_they_were(rt: HostRuntime) {
     let mut bytes = image(&[settled(70, FIVE)]);
     let mut drawer = Drawer::new(&mut bytes, BILLS);
-    run(
-        &rt,
-        &mut drawer,
-        &[
-            Step(3, Call::Promise(255_000_000), Ok(())),
-            Step(3, Call::GiveBack, Ok(())),
-            Step(3, Call::GiveBack, Err(NONE_PROMISED)),
-        ],
+    assert_eq!(rt;
+        run(
+            &mut drawer,
+            &[
+                Step(3, Call::Promise(255_000_000), Ok(())),
+                Step(3, Call::GiveBack, Ok(())),
+                Step(3, Call::GiveBack, Err(NONE_PROMISED)),
+            ]
+        ),
+        Ok(())
     );
-    check_holds(&rt, &drawer, 3, None, 5, 1);
+    assert_eq!(rt; asked(&drawer, 3), (Ok(None), Ok(5), Ok(1)));
     assert_eq!(rt; bytes, image(&[settled(70, FIVE)]));
 }
 
@@ -85,15 +92,17 @@ fn a_drawer_of_refused_bytes_holds_nothing(rt: HostRuntime) {
     let mut bytes = before;
     let mut drawer = Drawer::new(&mut bytes, BILLS);
     assert_eq!(rt; drawer.bills(), 0);
-    run(
-        &rt,
-        &mut drawer,
-        &[
-            Step(1, Call::Settle, Err(NONE_PROMISED)),
-            Step(1, Call::GiveBack, Err(NONE_PROMISED)),
-            Step(0, Call::Promise(1), Err(NO_PLACE)),
-        ],
+    assert_eq!(rt;
+        run(
+            &mut drawer,
+            &[
+                Step(1, Call::Settle, Err(NONE_PROMISED)),
+                Step(1, Call::GiveBack, Err(NONE_PROMISED)),
+                Step(0, Call::Promise(1), Err(NO_PLACE)),
+            ]
+        ),
+        Ok(())
     );
-    check_holds(&rt, &drawer, 1, None, 0, 0);
+    assert_eq!(rt; asked(&drawer, 1), (Ok(None), Ok(0), Ok(0)));
     assert_eq!(rt; bytes, before);
 }

@@ -2,6 +2,7 @@
 use drawer_fresh::write_fresh;
 use drawer_image::check::check;
 use drawer_image::fault::DrawerFault;
+use drawer_image::{FIELD, PROMISE_TAG, SETTLED_TAG};
 use number::Number;
 
 pub const BILLS: u16 = 2;
@@ -34,27 +35,21 @@ pub(crate) fn bad_field(place: usize) -> Result<(), DrawerFault> {
 pub const FOUR: [u8; 2] = [4, 0];
 
 pub(crate) fn promise(place: usize, amount: [u8; 4]) -> Field {
-    Field(place, 0x50, FOUR, amount)
+    Field(place, PROMISE_TAG, FOUR, amount)
 }
 
 pub(crate) fn settled(place: usize, amount: [u8; 4]) -> Field {
-    Field(place, 0x43, FOUR, amount)
+    Field(place, SETTLED_TAG, FOUR, amount)
 }
 
 // A fresh image with fields written over it.
 pub(crate) fn image(fields: &[Field]) -> [u8; LENGTH] {
     let mut bytes = [0; LENGTH];
+    // It is not refused: LENGTH bytes are those of BILLS fields for bills in each section.
     let _ = write_fresh(&mut bytes, BILLS);
-    for field in fields {
-        let Field(place, tag, length, amount) = *field;
-        if place <= LENGTH - 7 {
-            bytes[place] = tag;
-            bytes[place + 1] = length[0];
-            bytes[place + 2] = length[1];
-            bytes[place + 3] = amount[0];
-            bytes[place + 4] = amount[1];
-            bytes[place + 5] = amount[2];
-            bytes[place + 6] = amount[3];
+    for &Field(place, tag, [low, high], [a, b, c, d]) in fields {
+        if place <= LENGTH - FIELD {
+            bytes[place..place + FIELD].copy_from_slice(&[tag, low, high, a, b, c, d]);
         }
     }
     bytes

@@ -12,5 +12,3 @@ mod drawers;
 mod images;
 #[cfg(test)]
 mod piles;
-#[cfg(test)]
-mod script;

@@ -1,6 +1,5 @@
 // A limit over a tally over a drawer, and the audit of the bytes afterwards.
 use crate::images::*;
-use crate::script::*;
 use audit_report::report::report;
 use drawer::Drawer;
 use drawer_calls::{make_calls_on_drawer, make_calls_on_pile};
@@ -8,6 +7,7 @@ use layers::limit::Limit;
 use layers::tally::Tally;
 use ledger::LedgerFault;
 use ledger_calls::{Call, HeadCall};
+use ledger_script::{ALREADY_PROMISED, NO_SUCH_HEAD, Step, asked, run};
 use number::Number;
 use std::test::Fail;
 
@@ -19,25 +19,27 @@ fn a_pile_over_a_drawer_leaves_bytes_that_pass(rt: HostRuntime) -> Result<(), Fa
     starts[0] = 3;
     starts[1] = 1;
     let mut pile = Limit::new(starts, Tally::new(Drawer::new(&mut bytes, BILLS)));
-    run(
-        &rt,
-        &mut pile,
-        &[
-            Step(0, Call::Promise(100), Ok(())),
-            Step(0, Call::Settle, Ok(())),
-            Step(0, Call::Promise(50), Ok(())),
-            Step(0, Call::Settle, Ok(())),
-            Step(0, Call::Promise(1), Err(LedgerFault::NoPlace(Number, 2))),
-            Step(1, Call::Promise(7), Ok(())),
-            Step(1, Call::GiveBack, Ok(())),
-            Step(1, Call::Promise(8), Ok(())),
-            Step(1, Call::Promise(9), Err(ALREADY_PROMISED)),
-            Step(2, Call::Promise(1), Err(LedgerFault::NoPlace(Number, 0))),
-            Step(14, Call::Settle, Err(NO_SUCH_HEAD)),
-        ],
+    assert_eq!(rt;
+        run(
+            &mut pile,
+            &[
+                Step(0, Call::Promise(100), Ok(())),
+                Step(0, Call::Settle, Ok(())),
+                Step(0, Call::Promise(50), Ok(())),
+                Step(0, Call::Settle, Ok(())),
+                Step(0, Call::Promise(1), Err(LedgerFault::NoPlace(Number, 2))),
+                Step(1, Call::Promise(7), Ok(())),
+                Step(1, Call::GiveBack, Ok(())),
+                Step(1, Call::Promise(8), Ok(())),
+                Step(1, Call::Promise(9), Err(ALREADY_PROMISED)),
+                Step(2, Call::Promise(1), Err(LedgerFault::NoPlace(Number, 0))),
+                Step(14, Call::Settle, Err(NO_SUCH_HEAD)),
+            ]
+        ),
+        Ok(())
     );
-    check_holds(&rt, &pile, 0, None, 150, 0);
-    check_holds(&rt, &pile, 1, Some(8), 0, 0);
+    assert_eq!(rt; asked(&pile, 0), (Ok(None), Ok(150), Ok(0)));
+    assert_eq!(rt; asked(&pile, 1), (Ok(Some(8)), Ok(0), Ok(0)));
     assert_eq!(rt; pile.left(0), Ok(1));
     let tally = pile.into_below();
     assert_eq!(rt; tally.count(0), Ok(2));

@@ -5,18 +5,18 @@ use head::Phase;
 use sheet::Draft;
 
 // The bytes that a report is handed as what was received.
-#[derive(Clone, Copy)]
-pub enum Handed {
+#[derive(Clone, Copy, Debug, PartialEq, Eq)]
+pub enum Handed<'a> {
     // What the head in turn answers, and nothing where it does not answer.
     Answer,
-    // Nothing: the answer is lost.
+    // Nothing: the answer is lost. A script has a word for that, and its own bytes are one at least.
     Silence,
-    // The script's own bytes: the place of the first among all that the script gives, and how many they are.
-    Bytes(usize, usize),
+    // The script's own bytes.
+    Bytes(&'a [u8]),
 }
 
-#[derive(Clone, Copy)]
-pub enum Event {
+#[derive(Clone, Copy, Debug, PartialEq, Eq)]
+pub enum Event<'a> {
     // The number of a head, and its sheet.
     Admit(u8, Draft),
     // The number of a head.
@@ -26,9 +26,9 @@ pub enum Event {
     // The slot's head arrives on the line.
     Arrive,
     // The first report of what the head answered.
-    First(Handed),
+    First(Handed<'a>),
     // The second, after what the first had sent.
-    Second(Handed),
+    Second(Handed<'a>),
     // The power fails inside the first report, after so many calls of the ledger or after all that it makes.
     Cut(u8),
     Restart,
@@ -37,7 +37,7 @@ pub enum Event {
 }
 
 // The ledger of each head: a table or a drawer, and the layers above it.
-#[derive(Clone, Copy)]
+#[derive(Clone, Copy, Debug, PartialEq, Eq)]
 pub enum LedgerKind {
     // How many places the table has.
     Table(u16),

@@ -1,35 +1,44 @@
--- What the writes of `write` leave in the buffer, one after the other. Assumes nothing.
-use Rattle.std.proofs.Common.{◌≡◌, ℕ, suc, ◌+◌, ◌-◌, ◌≤◌, List, [], ◌∷◌, ◌++◌, length, take, drop, set, refl, ap, ◌∙◌, arith}
+-- What the three writes of `write` leave in the buffer: its head, the data and the check. Assumes nothing.
+use Rattle.std.proofs.Common.{◌≡◌, ℕ, ◌+◌, ◌-◌, ◌/◌, ◌%◌, ◌<◌, List, [], ◌∷◌, ◌++◌, length, take, drop, refl, sym, ap, ◌∙◌, arith}
+use Rattle.std.proofs.lemmas.List.{take_at, drop_at, drop-drop, append_assoc}
 use borrow.Rule.Slice.PartMut.{put_mid}
-use Rattle.std.proofs.lemmas.List.{take_at}
+use Rattle.frame_check.specs.Register.{check_of}
+use Rattle.frame.specs.Frames.{content, checked_part, frame_bytes}
 
-core : (rest payload : List ℕ) (lo hi : ℕ) → length payload + 2 ≤ length rest → set (set (payload ++ drop (length payload) rest) (length payload) lo) (suc (length payload)) hi ≡ (payload ++ lo ∷ hi ∷ []) ++ drop (suc (suc (length payload))) rest
-core [] [] lo hi h = absurd (omega arith)
-core (a ∷ []) [] lo hi h = absurd (omega arith)
-core (a ∷ b ∷ rest) [] lo hi h = refl
-core [] (p ∷ payload) lo hi h = absurd (omega arith)
-core (a ∷ rest) (p ∷ payload) lo hi h = ap (λ l. p ∷ l) (core rest payload lo hi (omega arith))
+-- a part is put right behind the bytes xs
+put : (xs rest part : List ℕ) (a k : ℕ) → length xs ≡ a → put_mid a k (xs ++ rest) part ≡ xs ++ (part ++ drop k rest)
+put xs rest part a k e = rw (take_at xs rest a e, drop_at xs rest a e) refl
 
--- the buffer once the data is copied
-pub filled : (out payload : List ℕ) (lng cmd : ℕ) → length payload + 5 ≤ length out → put_mid 3 (length payload + 5 - 2 - 3) (set (set (set out 0 252) 1 lng) 2 cmd) payload ≡ 252 ∷ lng ∷ cmd ∷ (payload ++ drop (length payload) (drop 3 out))
-filled [] payload lng cmd h = absurd (omega arith)
-filled (a ∷ []) payload lng cmd h = absurd (omega arith)
-filled (a ∷ b ∷ []) payload lng cmd h = absurd (omega arith)
-filled (a ∷ b ∷ c ∷ rest) payload lng cmd h =
-    let e : length payload + 5 - 2 - 3 ≡ length payload = omega arith in
-    ap (λ k. 252 ∷ lng ∷ cmd ∷ (payload ++ drop k rest)) e
+module _ (out d : List ℕ) (command : ℕ) where
+  abbrev l : ℕ
+  l = length d + 5
 
-pub body : (out payload : List ℕ) (lng cmd : ℕ) → take (length payload + 5 - 2 - 0) (252 ∷ lng ∷ cmd ∷ (payload ++ out)) ≡ 252 ∷ lng ∷ cmd ∷ payload
-body out payload lng cmd =
-    let e : length payload + 5 - 2 - 0 ≡ suc (suc (suc (length payload))) = omega arith in
-    ap (λ k. take k (252 ∷ lng ∷ cmd ∷ (payload ++ out))) e ∙ ap (λ l. 252 ∷ lng ∷ cmd ∷ l) (take_at payload out (length payload) refl)
+  -- once the data is copied behind the head
+  abbrev with_data : List ℕ
+  with_data = put_mid 3 (l - 2 - 3) ((252 ∷ l ∷ command ∷ []) ++ drop 3 out) d
 
-pub laid : (out payload : List ℕ) (lng cmd lo hi : ℕ) → length payload + 5 ≤ length out → set (set (252 ∷ lng ∷ cmd ∷ (payload ++ drop (length payload) (drop 3 out))) (length payload + 5 - 2) lo) (length payload + 5 - 1) hi ≡ 252 ∷ lng ∷ cmd ∷ ((payload ++ lo ∷ hi ∷ []) ++ drop (length payload + 5) out)
-laid [] payload lng cmd lo hi h = absurd (omega arith)
-laid (a ∷ []) payload lng cmd lo hi h = absurd (omega arith)
-laid (a ∷ b ∷ []) payload lng cmd lo hi h = absurd (omega arith)
-laid (a ∷ b ∷ c ∷ rest) payload lng cmd lo hi h =
-    let e2 : length payload + 5 - 2 ≡ suc (suc (suc (length payload))) = omega arith in
-    let e1 : length payload + 5 - 1 ≡ suc (suc (suc (suc (length payload)))) = omega arith in
-    let e0 : length payload + 5 ≡ suc (suc (suc (suc (suc (length payload))))) = omega arith in
-    rw (e2, e1, e0) (ap (λ l. 252 ∷ lng ∷ cmd ∷ l) (core rest payload lo hi (omega arith)))
+  abbrev rest : List ℕ
+  rest = drop (l - 2 - 3) (drop 3 out)
+
+  filled : with_data ≡ checked_part (content command d) ++ rest
+  filled = put (252 ∷ l ∷ command ∷ []) (drop 3 out) d 3 (l - 2 - 3) refl
+
+  long : length (checked_part (content command d)) ≡ l - 2
+  long = omega arith
+
+  checked : check_of (take (l - 2) with_data) ≡ check_of (checked_part (content command d))
+  checked = ap (λ bs. check_of (take (l - 2) bs)) filled ∙ ap check_of (take_at (checked_part (content command d)) rest (l - 2) long)
+
+  behind : drop (l - (l - 2)) rest ≡ drop l out
+  behind =
+      drop-drop (l - (l - 2)) (l - 2 - 3) (drop 3 out) ∙ drop-drop (l - 2 - 3 + (l - (l - 2))) 3 out ∙ ap (λ n. drop n out) (omega arith)
+
+  laid : (sum : ℕ) → sum < 65536 → sum ≡ check_of (take (l - 2) with_data) → put_mid (l - 2) (l - (l - 2)) with_data (sum % 256 ∷ sum / 256 % 256 ∷ []) ≡ frame_bytes (content command d) ++ drop l out
+  laid sum wide is =
+      let check = check_of (checked_part (content command d)) in
+      let high : sum / 256 % 256 ≡ sum / 256 = omega arith in
+      let e : sum ≡ check = is ∙ checked in
+      ap (λ bs. put_mid (l - 2) (l - (l - 2)) bs (sum % 256 ∷ sum / 256 % 256 ∷ [])) filled ∙ put (checked_part (content command d)) rest (sum % 256 ∷ sum / 256 % 256 ∷ []) (l - 2) (l - (l - 2)) long ∙ ap (λ r. checked_part (content command d) ++ (sum % 256 ∷ sum / 256 % 256 ∷ r)) behind ∙ ap (λ h. checked_part (content command d) ++ (sum % 256 ∷ h ∷ drop l out)) high ∙ ap (λ s. checked_part (content command d) ++ (s % 256 ∷ s / 256 ∷ drop l out)) e ∙ sym (append_assoc (checked_part (content command d)) (check % 256 ∷ check / 256 ∷ []) (drop l out))
+
+  pub written : (head part check : List ℕ) (sum : ℕ) → head ≡ 252 ∷ l ∷ command ∷ [] → part ≡ d → sum < 65536 → sum ≡ check_of (take (l - 2) (put_mid 3 (l - 2 - 3) (head ++ drop 3 out) part)) → check ≡ sum % 256 ∷ sum / 256 % 256 ∷ [] → put_mid (l - 2) (l - (l - 2)) (put_mid 3 (l - 2 - 3) (head ++ drop 3 out) part) check ≡ frame_bytes (content command d) ++ drop l out
+  written head part check sum h p wide s k = rw (h, p, k) (laid sum wide (rw (h, p) at s))

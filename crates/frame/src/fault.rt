@@ -1,59 +1,43 @@
 // Why a frame was not read, or not written. The numbers are part of the interface.
-ghost use Rattle.std.specs.Prelude.{◌≡◌};
 ghost use Rattle.frame.specs.Faults.{frame_fault_number, write_fault_number};
 
-use std::fmt;
+use number::Numbered;
+use thiserror::Error;
 
-#[derive(Clone, Copy, Debug, PartialEq, Eq)]
+#[derive(Clone, Copy, Debug, PartialEq, Eq, Error)]
 pub enum FrameFault {
+    #[error("{}: fewer than 5 bytes are left", self.number())]
     TooShort = 1,
+    #[error("{}: the byte is not FC", self.number())]
     NoSync = 2,
+    #[error("{}: the length byte is under 5", self.number())]
     BadLength = 3,
+    #[error("{}: fewer bytes are left than the length byte counts", self.number())]
     Incomplete = 4,
+    #[error("{}: the check differs", self.number())]
     CheckDiffers = 5,
 }
 
-impl FrameFault {
-    pub fn number(self) -> u8
-        ensures { result ≡ frame_fault_number self }
-    {
-        self as u8
+impl Numbered for FrameFault {
+    ghost number_of = { frame_fault_number };
+
+    fn number(&self) -> u8 {
+        *self as u8
     }
 }
 
-impl fmt::Display for FrameFault {
-    fn fmt<W: fmt::Write>(&self, f: &mut fmt::Formatter<W>) -> fmt::Result {
-        let text = match self {
-            FrameFault::TooShort => "1: fewer than 5 bytes are left",
-            FrameFault::NoSync => "2: the byte is not FC",
-            FrameFault::BadLength => "3: the length byte is under 5",
-            FrameFault::Incomplete => "4: fewer bytes are left than the length byte counts",
-            FrameFault::CheckDiffers => "5: the check differs",
-        };
-        f.write_str(text)
-    }
-}
-
-#[derive(Clone, Copy, Debug, PartialEq, Eq)]
+#[derive(Clone, Copy, Debug, PartialEq, Eq, Error)]
 pub enum WriteFault {
+    #[error("{}: there are more than 250 data bytes", self.number())]
     DataTooLong = 6,
+    #[error("{}: the buffer is too short for the frame", self.number())]
     BufferTooShort = 7,
 }
 
-impl WriteFault {
-    pub fn number(self) -> u8
-        ensures { result ≡ write_fault_number self }
-    {
-        self as u8
-    }
-}
+impl Numbered for WriteFault {
+    ghost number_of = { write_fault_number };
 
-impl fmt::Display for WriteFault {
-    fn fmt<W: fmt::Write>(&self, f: &mut fmt::Formatter<W>) -> fmt::Result {
-        let text = match self {
-            WriteFault::DataTooLong => "6: there are more than 250 data bytes",
-            WriteFault::BufferTooShort => "7: the buffer is too short for the frame",
-        };
-        f.write_str(text)
+    fn number(&self) -> u8 {
+        *self as u8
     }
 }

@@ -18,7 +18,7 @@ pub const MOST_DATA: usize = 250;
 const OVERHEAD: usize = 5;
 
 // A frame that was read: its command byte, and its data as a part of the bytes that it was read from.
-#[derive(Clone, Copy)]
+#[derive(Clone, Copy, Debug, PartialEq, Eq)]
 pub struct Frame<'a> {
     pub command: u8,
     pub data: &'a [u8],
@@ -28,25 +28,25 @@ pub struct Frame<'a> {
 fn front<'a>(bytes: &'a [u8]) -> Result<Frame<'a>, FrameFault>
     ensures { told result ≡ front_answer bytes.now }
 {
-    if bytes.len() < OVERHEAD {
+    let [sync, length, command, _, _, ..] = bytes else {
         return Err(FrameFault::TooShort);
-    }
-    if bytes[0] != SYNC {
+    };
+    if *sync != SYNC {
         return Err(FrameFault::NoSync);
     }
-    let total = bytes[1] as usize;
+    let total = usize::from(*length);
     if total < OVERHEAD {
         return Err(FrameFault::BadLength);
     }
     if bytes.len() < total {
         return Err(FrameFault::Incomplete);
     }
-    let carried = bytes[total - 2] as u16 + 256 * bytes[total - 1] as u16;
-    if frame_check::check(&bytes[0..total - 2]) != carried {
+    let carried = u16::from_le_bytes([bytes[total - 2], bytes[total - 1]]);
+    if frame_check::check(&bytes[..total - 2]) != carried {
         return Err(FrameFault::CheckDiffers);
     }
     Ok(Frame {
-        command: bytes[2],
+        command: *command,
         data: &bytes[3..total - 2],
     })
 }
@@ -56,13 +56,15 @@ pub fn read<'a>(bytes: &'a [u8], place: usize) -> Result<Frame<'a>, FrameFault>
     ensures answer { told result ≡ read_answer bytes.now place }
     ensures exactly { Exactly bytes.now place (told result) }
 {
-    if place > bytes.len() {
-        return Err(FrameFault::TooShort);
-    }
-    front(&bytes[place..])
+    let rest = bytes.get(place..).ok_or(FrameFault::TooShort)?;
+    front(rest)
 }
 
 // Writes a frame to the start of the buffer, whose rest stays, and tells its length.
+//
+// There is no heap, so a frame goes into the caller's buffer: the length says how much of it the frame takes, and the
+// clauses speak of the whole buffer. Command and data come apart, since most callers have them so, as a constant
+// and an empty slice.
 pub fn write(command: u8, data: &[u8], buffer: &mut [u8]) -> Result<usize, WriteFault>
     ensures answer { result ≡ write_answer «data».now (length buffer.old) }
     ensures after { buffer.new ≡ buffer_after (content command «data».now) buffer.old result }
@@ -75,12 +77,9 @@ pub fn write(command: u8, data: &[u8], buffer: &mut [u8]) -> Result<usize, Write
     if buffer.len() < total {
         return Err(WriteFault::BufferTooShort);
     }
-    buffer[0] = SYNC;
-    buffer[1] = total as u8;
-    buffer[2] = command;
+    buffer[..3].copy_from_slice(&[SYNC, total as u8, command]);
     buffer[3..total - 2].copy_from_slice(data);
-    let sum = frame_check::check(&buffer[0..total - 2]);
-    buffer[total - 2] = (sum & 0xff) as u8;
-    buffer[total - 1] = (sum >> 8) as u8;
+    let sum = frame_check::check(&buffer[..total - 2]);
+    buffer[total - 2..total].copy_from_slice(&sum.to_le_bytes());
     Ok(total)
 }

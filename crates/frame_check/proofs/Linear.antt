@@ -1,7 +1,7 @@
 -- The check is linear, so that a byte at a time by the table is the same as bit by bit. Assumes nothing.
 use Rattle.std.proofs.Common.{◌≡◌, ℕ, zero, suc, ◌*◌, ◌/◌, ◌%◌, ◌^◌, ◌<◌, cond, eqb, sym, refl, ap, ◌∙◌, div-one, one-add, arith}
 use lib.Bits.{bit_xor, xor_assoc, xor_comm, xor_mod, xor_shr, xor_shifted, xor_zero_r, shifted_half, shifted_even}
-use Rattle.std.proofs.lemmas.Nat.{shr-shr, shr_split, shl-shr, mod_below}
+use Rattle.std.proofs.lemmas.Nat.{shr-shr, shr_split, shl-shr, mod_below, xor_lt}
 use Rattle.frame_check.specs.Register.{bit_step, bit_steps, byte_step, entry_of}
 
 turn : (h k m : ℕ) → bit_xor (bit_xor h k) m ≡ bit_xor (bit_xor h m) k
@@ -43,8 +43,11 @@ unfolding entry_of
 whole x =
     ap (λ y. bit_steps 8 y 0) (sym (split x)) ∙ bits_xor 8 (x % 256) (x / 256 * 256) ∙ ap (λ y. bit_xor y (x / 256 * 256 / 256)) (bits_high 8 (x % 256) (x / 256)) ∙ ap (bit_xor (bit_steps 8 (x % 256) 0)) (shl-shr (x / 256) 8) ∙ xor_comm (bit_steps 8 (x % 256) 0) (x / 256)
 
-pub by_table : (reg b : ℕ) → b < 256 → byte_step reg b ≡ bit_xor (bit_xor reg b / 256) (entry_of (bit_xor reg b % 256))
+-- a byte: the high byte of the mixed register, with the entry of its low byte
+pub by_table : (reg b : ℕ) → reg < 65536 → b < 256 → byte_step reg b ≡ bit_xor (bit_xor reg b / 256 % 256) (entry_of (bit_xor reg b % 256))
 unfolding byte_step
-by_table reg b lt =
+by_table reg b wide lt =
     let none : b / 256 ≡ 0 = omega arith in
-    sym (xor_zero_r (bit_steps 8 reg b)) ∙ ap (bit_xor (bit_steps 8 reg b)) (sym none) ∙ sym (bits_xor 8 reg b) ∙ whole (bit_xor reg b)
+    let fits : bit_xor reg b < 2 ^ 16 = xor_lt 16 reg b wide (omega arith) in
+    let high : bit_xor reg b / 256 % 256 ≡ bit_xor reg b / 256 = omega arith in
+    rw high (sym (xor_zero_r (bit_steps 8 reg b)) ∙ ap (bit_xor (bit_steps 8 reg b)) (sym none) ∙ sym (bits_xor 8 reg b) ∙ whole (bit_xor reg b))

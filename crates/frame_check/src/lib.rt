@@ -9,14 +9,16 @@ mod table;
 use table::entry;
 
 // The register after one more byte.
+#[tactic(auto, using(crate::proofs::Linear::by_table))]
 fn step(register: u16, byte: u8) -> u16
     ensures { result ≡ byte_step register byte }
 {
-    let mixed = register ^ byte as u16;
-    (mixed >> 8) ^ entry((mixed & 0xff) as u8)
+    let [low, high] = (register ^ u16::from(byte)).to_le_bytes();
+    u16::from(high) ^ entry(low)
 }
 
-// The check of the bytes: what a frame carries of all bytes before it.
+// The check of the bytes: what a frame carries of all bytes before it. It is this loop over the bytes, folding the
+// register, as docs/FRAMES.md tells it.
 pub fn check(bytes: &[u8]) -> u16
     ensures { result ≡ check_of bytes.now }
 {

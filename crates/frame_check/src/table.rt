@@ -2,10 +2,11 @@
 ghost use Rattle.std.specs.Prelude.{◌≡◌, T, length};
 ghost use Rattle.frame_check.specs.Register.{entry_of, tabulated};
 
+#[tactic(auto, using(crate::proofs::Rule::entry_at))]
 pub fn entry(i: u8) -> u16
     ensures { result ≡ entry_of i }
 {
-    entries()[i as usize]
+    entries()[usize::from(i)]
 }
 
 // The table, with the one test that runs over all its entries.

@@ -1,2 +1,1 @@
-mod Hearing
 pub mod Listed

@@ -10,31 +10,30 @@
 --
 -- Assumes nothing.
 use Rattle.std.specs.Prelude.{ℕ, ◌+◌, ◌≤◌, cond, List, [], length, Some, None, Ok, Err, Option, Result, nat_lt}
+use Rattle.std.specs.Option.{option_map}
 use Rattle.number.specs.Shown.{shown}
 use Rattle.frame.specs.Frames.{Content, content, buffer_after}
 use Rattle.message.specs.Heard.{Found, hear_answer}
 use Rattle.message.specs.declared.heard.NothingHeard.{NothingHeard}
 use Rattle.head.specs.declared.command.Reply.{Reply}
-use Rattle.head.specs.declared.command.Reply.TheVariants.{Status, Acknowledgement, InvalidCommand, Echo, Silence}
+use Rattle.head.specs.declared.command.Reply.TheVariants.{Status, Acknowledgement, InvalidCommand, Echo}
 use Rattle.head.specs.declared.fault.ReceiveFault.{ReceiveFault}
 use Rattle.head.specs.declared.fault.ReceiveFault.TheVariants.{BufferTooShort}
 use Rattle.head.specs.declared.head.Head.{Head}
 use Rattle.head.specs.Phases.{status}
 use Rattle.head.specs.Commands.{command_of, obeyed}
 
-abbrev pub reply_content : Reply → Content → Option Content
-reply_content (Status p) m = Some (status p)
-reply_content (Acknowledgement n) m = Some (content (shown n) [])
-reply_content (InvalidCommand n) m = Some (content (shown n) [])
-reply_content Echo m = Some m
-reply_content Silence m = None
+abbrev pub reply_content : Reply → Content → Content
+reply_content (Status p) m = status p
+reply_content (Acknowledgement n) m = content (shown n) []
+reply_content (InvalidCommand n) m = content (shown n) []
+reply_content Echo m = m
 
 abbrev pub EchoShort : Reply → Content → Type 0
 EchoShort (Status p) m = Unit {0}
 EchoShort (Acknowledgement n) m = Unit {0}
 EchoShort (InvalidCommand n) m = Unit {0}
 EchoShort Echo m = length m.«data» ≤ 2
-EchoShort Silence m = Unit {0}
 
 abbrev pub written : Option Content → List ℕ → List ℕ × ℕ
 written (Some m) was = (buffer_after m was (Ok (length m.«data» + 5)), length m.«data» + 5)
@@ -44,7 +43,7 @@ abbrev pub head_after : Head → Content → Head
 head_after h m = (obeyed h (command_of m)).0
 
 abbrev pub answer_to : Head → Content → Option Content
-answer_to h m = reply_content (obeyed h (command_of m)).1 m
+answer_to h m = option_map (λ r. reply_content r m) (obeyed h (command_of m)).1
 
 -- With the message heard, or nothing.
 abbrev pub head_hearing : Head → Result Found NothingHeard → Head

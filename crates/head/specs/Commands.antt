@@ -2,7 +2,7 @@
 --
 --   command_of m   which command a message is
 --   row p          a row of the table: what a head in the phase p does on each command
---   obeyed h k     the head h after the command k, and its reply
+--   obeyed h k     the head h after the command k, and its reply, if any
 --
 -- Assumes nothing.
 use Rattle.std.specs.Prelude.{ℕ, Bool, true, false, cond, ◌||◌, List, [], ◌∷◌, Some, None, Option, ◌==◌}
@@ -13,7 +13,7 @@ use Rattle.head.specs.declared.phase.Phase.TheVariants.{Idle, Accepting, Escrow,
 use Rattle.head.specs.declared.command.Command.{Command}
 use Rattle.head.specs.declared.command.Command.TheVariants.{StatusRequest, Stack, Return, Reset, Acknowledge, Configure, Inhibit, Permit, Unknown}
 use Rattle.head.specs.declared.command.Reply.{Reply}
-use Rattle.head.specs.declared.command.Reply.TheVariants.{Status, Acknowledgement, InvalidCommand, Echo, Silence}
+use Rattle.head.specs.declared.command.Reply.TheVariants.{Status, Acknowledgement, InvalidCommand, Echo}
 use Rattle.head.specs.declared.head.Head.{Head}
 use Rattle.head.specs.Phases.{idle, stacking, stacked, rejecting, returning, disabled, init, storing}
 
@@ -45,31 +45,31 @@ command_of m = sorted m.command m.«data»
 
 -- THE TABLE
 
--- A cell: the phase that the head goes to, none where it stays in its own, and its reply.
+-- A cell: the phase that the head goes to, none where it stays in its own, and its reply, if any.
 abbrev pub Cell : Type 0
-Cell = Option Phase × Reply
+Cell = Option Phase × Option Reply
 
 -- 4BH, and nothing changes
 abbrev pub no : Cell
-no = (None, InvalidCommand (record {}))
+no = (None, Some (InvalidCommand (record {})))
 
 -- 50H
 abbrev pub done : Phase → Cell
-done q = (Some q, Acknowledgement (record {}))
+done q = (Some q, Some (Acknowledgement (record {})))
 
 -- no answer
 abbrev pub still : Cell
-still = (None, Silence)
+still = (None, None)
 
 abbrev pub still_to : Phase → Cell
-still_to q = (Some q, Silence)
+still_to q = (Some q, None)
 
 -- the same message
 abbrev pub echo : Cell
-echo = (None, Echo)
+echo = (None, Some Echo)
 
 abbrev pub echo_to : Phase → Cell
-echo_to q = (Some q, Echo)
+echo_to q = (Some q, Some Echo)
 
 pub record Row : Type 0 where
   pub stack : Cell
@@ -103,7 +103,7 @@ row (Error e f) = cells no no (done init) still no echo echo
 
 -- 11H is answered in every phase, all else is refused.
 abbrev pub cell : Phase → Command → Cell
-cell p StatusRequest = (None, Status p)
+cell p StatusRequest = (None, Some (Status p))
 cell p Stack = (row p).stack
 cell p Return = (row p).«return»
 cell p Reset = (row p).reset
@@ -125,5 +125,5 @@ bit_after i Inhibit = true
 bit_after i Permit = false
 bit_after i Unknown = i
 
-abbrev pub obeyed : Head → Command → Head × Reply
+abbrev pub obeyed : Head → Command → Head × Option Reply
 obeyed h k = (record { phase = unwrap_or (cell h.phase k).0 h.phase; inhibited = bit_after h.inhibited k }, (cell h.phase k).1)

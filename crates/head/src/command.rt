@@ -30,28 +30,20 @@ pub(crate) enum Command {
 }
 
 impl Command {
+    // The command byte and the data come apart, as the one match over both wants them.
     pub(crate) fn read(code: u8, data: &[u8]) -> Command
         ensures { result ≡ command_of (content code «data».now) }
     {
-        match data {
-            [] => match code {
-                0x11 => Command::StatusRequest,
-                0x40 => Command::Reset,
-                0x41 => Command::Stack,
-                0x43 => Command::Return,
-                0x50 => Command::Acknowledge,
-                _ => Command::Unknown,
-            },
-            [bit] => match (code, *bit) {
-                (0xc3, 0x00) => Command::Permit,
-                (0xc3, 0x01) => Command::Inhibit,
-                _ => Command::Unknown,
-            },
-            [_, _] => match code {
-                0xc0 | 0xc1 | 0xc5 => Command::Configure,
-                _ => Command::Unknown,
-            },
-            _ => Command::Unknown,
+        match (code, data) {
+            (0x11, []) => Self::StatusRequest,
+            (0x40, []) => Self::Reset,
+            (0x41, []) => Self::Stack,
+            (0x43, []) => Self::Return,
+            (0x50, []) => Self::Acknowledge,
+            (0xc0 | 0xc1 | 0xc5, [_, _]) => Self::Configure,
+            (0xc3, [0x01]) => Self::Inhibit,
+            (0xc3, [0x00]) => Self::Permit,
+            _ => Self::Unknown,
         }
     }
 }
@@ -65,5 +57,4 @@ pub(crate) enum Reply {
     InvalidCommand(Number<0x4b>),
     // what was heard, as it was heard
     Echo,
-    Silence,
 }

@@ -1,49 +1,36 @@
 // Why a head refuses. The numbers are part of the interface.
-ghost use Rattle.std.specs.Prelude.{◌≡◌};
+//
+// Each call has a fault of its own, also where that has one case: so the type of its answer says which refusals
+// it can give.
 ghost use Rattle.head.specs.Faults.{move_fault_number, receive_fault_number};
 
-use std::fmt;
+use number::Numbered;
+use thiserror::Error;
 
-#[derive(Clone, Copy, Debug, PartialEq, Eq)]
+#[derive(Clone, Copy, Debug, PartialEq, Eq, Error)]
 pub enum MoveFault {
+    #[error("{}: the head does not move there from its phase", self.number())]
     NotListed = 20,
 }
 
-impl MoveFault {
-    pub fn number(self) -> u8
-        ensures { result ≡ move_fault_number self }
-    {
-        self as u8
+impl Numbered for MoveFault {
+    ghost number_of = { move_fault_number };
+
+    fn number(&self) -> u8 {
+        *self as u8
     }
 }
 
-impl fmt::Display for MoveFault {
-    fn fmt<W: fmt::Write>(&self, f: &mut fmt::Formatter<W>) -> fmt::Result {
-        let text = match self {
-            MoveFault::NotListed => "20: the head does not move there from its phase",
-        };
-        f.write_str(text)
-    }
-}
-
-#[derive(Clone, Copy, Debug, PartialEq, Eq)]
+#[derive(Clone, Copy, Debug, PartialEq, Eq, Error)]
 pub enum ReceiveFault {
+    #[error("{}: the buffer is too short for a head's answer", self.number())]
     BufferTooShort = 7,
 }
 
-impl ReceiveFault {
-    pub fn number(self) -> u8
-        ensures { result ≡ receive_fault_number self }
-    {
-        self as u8
-    }
-}
+impl Numbered for ReceiveFault {
+    ghost number_of = { receive_fault_number };
 
-impl fmt::Display for ReceiveFault {
-    fn fmt<W: fmt::Write>(&self, f: &mut fmt::Formatter<W>) -> fmt::Result {
-        let text = match self {
-            ReceiveFault::BufferTooShort => "7: the buffer is too short for a head's answer",
-        };
-        f.write_str(text)
+    fn number(&self) -> u8 {
+        *self as u8
     }
 }

@@ -1,4 +1,7 @@
 // The head: its phase and its inhibit bit, what it does by itself and what it does on a command.
+//
+// The head matches its own phase and the move or the command together, and each arm changes it in place, so that
+// each arm is a row of docs/HEAD.md, or rows that say the same: the tables are checked by eye against that page.
 ghost use Rattle.std.specs.Prelude.{◌≡◌};
 ghost use Rattle.head.specs.Commands.{obeyed};
 ghost use Rattle.head.specs.Answers.{buffer_receiving, head_receiving, receive_answer};
@@ -50,8 +53,10 @@ impl Head {
     }
 
     // Takes received bytes, does what the message heard in them says, writes the answer's frame to the start of the
-    // buffer, whose rest stays, and tells its length, 0 for no answer. The buffer must have room for the longest
-    // answer, whatever the answer is.
+    // buffer, whose rest stays, and tells its length. The buffer must have room for the longest answer, whatever the
+    // answer is.
+    //
+    // The length is 0 where there is no answer: whoever puts that many bytes of the buffer on the line puts none.
     pub fn receive(&mut self, received: &[u8], buffer: &mut [u8]) -> Result<usize, ReceiveFault>
         ensures answer { result ≡ receive_answer self.old received.now buffer.old }
         ensures after { self.new ≡ head_receiving self.old received.now result }
@@ -64,7 +69,9 @@ impl Head {
             return Ok(0);
         };
         let message = heard.message;
-        let reply = self.obey(Command::read(message.command(), message.data()));
+        let Some(reply) = self.obey(Command::read(message.command(), message.data())) else {
+            return Ok(0);
+        };
         Ok(answer(reply, message, buffer))
     }
 
@@ -152,59 +159,61 @@ impl Head {
         }
     }
 
-    // Does what a command says, and gives the reply.
-    fn obey(&mut self, command: Command) -> Reply
+    // Does what a command says, and gives the reply, if any.
+    fn obey(&mut self, command: Command) -> Option<Reply>
         ensures { (self.new, result) ≡ obeyed self.old command }
     {
         match (self.phase, command) {
-            (phase, Command::StatusRequest) => Reply::Status(phase),
+            (phase, Command::StatusRequest) => Some(Reply::Status(phase)),
             (Escrow(_, bill), Command::Stack) => {
                 self.phase = Stacking(Number, bill);
-                Reply::Acknowledgement(Number)
+                Some(Reply::Acknowledgement(Number))
             }
             (Escrow(..), Command::Return) => {
                 self.phase = Returning(Number);
-                Reply::Acknowledgement(Number)
+                Some(Reply::Acknowledgement(Number))
             }
             (Vend(_, bill) | Stacked(_, bill) | Up42(_, bill) | Storing(_, bill), Command::Reset) =>
                 {
                     self.phase = Storing(Number, bill);
-                    Reply::Acknowledgement(Number)
+                    Some(Reply::Acknowledgement(Number))
                 }
             (_, Command::Reset) => {
                 self.phase = Init(Number);
-                Reply::Acknowledgement(Number)
+                Some(Reply::Acknowledgement(Number))
             }
             (Vend(_, bill), Command::Acknowledge) => {
                 self.phase = Stacked(Number, bill);
-                Reply::Silence
+                None
             }
-            (_, Command::Acknowledge) => Reply::Silence,
-            (Idle(_) | Disabled(_) | Init(_) | Storing(..), Command::Configure) => Reply::Echo,
+            (_, Command::Acknowledge) => None,
+            (Idle(_) | Disabled(_) | Init(_) | Storing(..), Command::Configure) => {
+                Some(Reply::Echo)
+            }
             (Idle(_) | Disabled(_), Command::Inhibit) => {
                 self.phase = Disabled(Number);
                 self.inhibited = true;
-                Reply::Echo
+                Some(Reply::Echo)
             }
             (Accepting(..) | Escrow(..), Command::Inhibit) => {
                 self.phase = Rejecting(Number, 0x79);
                 self.inhibited = true;
-                Reply::Echo
+                Some(Reply::Echo)
             }
             (_, Command::Inhibit) => {
                 self.inhibited = true;
-                Reply::Echo
+                Some(Reply::Echo)
             }
             (Idle(_) | Disabled(_), Command::Permit) => {
                 self.phase = Idle(Number);
                 self.inhibited = false;
-                Reply::Echo
+                Some(Reply::Echo)
             }
             (_, Command::Permit) => {
                 self.inhibited = false;
-                Reply::Echo
+                Some(Reply::Echo)
             }
-            _ => Reply::InvalidCommand(Number),
+            _ => Some(Reply::InvalidCommand(Number)),
         }
     }
 }

@@ -17,11 +17,11 @@ pub enum ErrorCode {
     Failure = 0x49,
 }
 
-impl ErrorCode {
-    pub fn byte(self) -> u8
-        ensures { result ≡ error_byte self }
-    {
-        self as u8
+impl From<ErrorCode> for u8 {
+    ghost from_gives = { λ code byte. byte ≡ error_byte code };
+
+    fn from(code: ErrorCode) -> u8 {
+        code as u8
     }
 }
 
@@ -52,6 +52,7 @@ impl Phase {
         ensures value { result ≡ status_code self }
         ensures known { ReadAsStatus self }
     {
+        // Each code is of a type of its own, so no pattern holds two of them.
         match self {
             Phase::Idle(code) => code.value(),
             Phase::Accepting(code, _) => code.value(),
@@ -67,7 +68,7 @@ impl Phase {
             Phase::Up40(code) => code.value(),
             Phase::Up41(code) => code.value(),
             Phase::Up42(code, _) => code.value(),
-            Phase::Error(code, _) => code.byte(),
+            Phase::Error(code, _) => code.into(),
         }
     }
 

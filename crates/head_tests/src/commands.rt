@@ -5,7 +5,7 @@ use head::Phase::{
     Storing, Up40, Up41, Up42, Vend,
 };
 use head::{ErrorCode, Head, Phase, ReceiveFault};
-use number::Number;
+use number::{Number, Numbered};
 use std::process::Abort;
 use std::test::Fail;
 
@@ -34,32 +34,34 @@ const ROWS: [Row; 17] = [
     Row(Error(ErrorCode::Failure, 0x05), 0x49, &[0x05], b"--i.-ee"),
 ];
 
-#[derive(Clone, Copy)]
-enum Answer {
-    Code(u8),
-    Echo,
-    Nothing,
-}
+// A command byte and the data that goes with it.
+type Message<'a> = (u8, &'a [u8]);
 
-// The answer and the phase after that a mark stands for.
-fn outcome(mark: u8, phase: Phase) -> (Answer, Phase) {
+// The answer to a message, if any, and the phase after it, that a mark stands for. A letter for each, so that a row
+// is read beside its row of docs/HEAD.md.
+fn outcome<'a>(
+    mark: u8,
+    message: Message<'a>,
+    phase: Phase,
+) -> Result<(Option<Message<'a>>, Phase), Fail> {
     match mark {
-        b'-' => (Answer::Code(0x4b), phase),
-        b's' => (Answer::Code(0x50), Stacking(Number, 0x62)),
-        b'b' => (Answer::Code(0x50), Returning(Number)),
-        b'i' => (Answer::Code(0x50), Init(Number)),
-        b'o' => (Answer::Code(0x50), Storing(Number, 0x62)),
-        b'.' => (Answer::Nothing, phase),
-        b'k' => (Answer::Nothing, Stacked(Number, 0x62)),
-        b'e' => (Answer::Echo, phase),
-        b'd' => (Answer::Echo, Disabled(Number)),
-        b'a' => (Answer::Echo, Idle(Number)),
-        _ => (Answer::Echo, Rejecting(Number, 0x79)),
+        b'-' => Ok((Some((0x4b, &[])), phase)),
+        b's' => Ok((Some((0x50, &[])), Stacking(Number, 0x62))),
+        b'b' => Ok((Some((0x50, &[])), Returning(Number))),
+        b'i' => Ok((Some((0x50, &[])), Init(Number))),
+        b'o' => Ok((Some((0x50, &[])), Storing(Number, 0x62))),
+        b'.' => Ok((None, phase)),
+        b'k' => Ok((None, Stacked(Number, 0x62))),
+        b'e' => Ok((Some(message), phase)),
+        b'd' => Ok((Some(message), Disabled(Number))),
+        b'a' => Ok((Some(message), Idle(Number))),
+        b'j' => Ok((Some(message), Rejecting(Number, 0x79))),
+        _ => Err(Fail::new("a mark that stands for nothing")),
     }
 }
 
 // Messages that get 4BH in every phase.
-const UNKNOWN: [(u8, &'static [u8]); 20] = [
+const UNKNOWN: [Message<'static>; 20] = [
     (0x11, &[0x00]),
     (0x40, &[0x00]),
     (0x41, &[0x00]),
@@ -87,18 +89,17 @@ const UNKNOWN: [(u8, &'static [u8]); 20] = [
 fn pair(
     rt: &impl Abort,
     way: Way,
-    command: u8,
-    data: &[u8],
+    message: Message,
     mark: u8,
     inhibited: bool,
 ) -> Result<(), Fail> {
-    let (answer, phase) = outcome(mark, way.0);
+    let (answer, phase) = outcome(mark, message, way.0)?;
     let mut wanted = [0xee; 9];
     let length = match answer {
-        Answer::Code(code) => frame::write(code, &[], &mut wanted)?,
-        Answer::Echo => frame::write(command, data, &mut wanted)?,
-        Answer::Nothing => 0,
+        Some((code, data)) => frame::write(code, data, &mut wanted)?,
+        None => 0,
     };
+    let (command, data) = message;
     let mut head = bring(rt, way)?;
     let mut line = [0; 9];
     frame::write(command, data, &mut line)?;
@@ -123,27 +124,26 @@ fn tells(rt: &impl Abort, mut head: Head, code: u8, data: &[u8]) -> Result<(), F
 }
 
 fn row_of(phase: Phase) -> Result<Row, Fail> {
-    for row in &ROWS {
-        if row.0 == phase {
-            return Ok(*row);
-        }
-    }
-    Err(Fail::new("a phase without a row"))
+    ROWS.iter()
+        .find(|row| row.0 == phase)
+        .copied()
+        .ok_or_else(|| Fail::new("a phase without a row"))
 }
 
 fn row_holds(rt: &impl Abort, way: Way) -> Result<(), Fail> {
-    let Way(phase, inhibited, _) = way;
+    let Way(phase, bit, _) = way;
     let Row(_, code, data, marks) = row_of(phase)?;
     tells(rt, bring(rt, way)?, code, data)?;
-    pair(rt, way, 0x41, &[], marks[0], inhibited)?;
-    pair(rt, way, 0x43, &[], marks[1], inhibited)?;
-    pair(rt, way, 0x40, &[], marks[2], inhibited)?;
-    pair(rt, way, 0x50, &[], marks[3], inhibited)?;
-    pair(rt, way, 0xc0, &[0x83, 0x00], marks[4], inhibited)?;
-    pair(rt, way, 0xc1, &[0x00, 0x01], marks[4], inhibited)?;
-    pair(rt, way, 0xc5, &[0xff, 0x7f], marks[4], inhibited)?;
-    pair(rt, way, 0xc3, &[0x01], marks[5], true)?;
-    pair(rt, way, 0xc3, &[0x00], marks[6], false)
+    let [stack, back, reset, acknowledge, setting, inhibit, permit] = *marks;
+    pair(rt, way, (0x41, &[]), stack, bit)?;
+    pair(rt, way, (0x43, &[]), back, bit)?;
+    pair(rt, way, (0x40, &[]), reset, bit)?;
+    pair(rt, way, (0x50, &[]), acknowledge, bit)?;
+    pair(rt, way, (0xc0, &[0x83, 0x00]), setting, bit)?;
+    pair(rt, way, (0xc1, &[0x00, 0x01]), setting, bit)?;
+    pair(rt, way, (0xc5, &[0xff, 0x7f]), setting, bit)?;
+    pair(rt, way, (0xc3, &[0x01]), inhibit, true)?;
+    pair(rt, way, (0xc3, &[0x00]), permit, false)
 }
 
 #[test]
@@ -157,8 +157,8 @@ fn every_pair_of_phase_and_command(rt: HostRuntime) -> Result<(), Fail> {
 #[test]
 fn all_else_is_answered_4b(rt: HostRuntime) -> Result<(), Fail> {
     for way in &WAYS {
-        for (command, data) in &UNKNOWN {
-            pair(&rt, *way, *command, *data, b'-', way.1)?;
+        for message in &UNKNOWN {
+            pair(&rt, *way, *message, b'-', way.1)?;
         }
     }
     Ok(())

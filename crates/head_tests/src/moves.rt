@@ -5,7 +5,7 @@ use head::Phase::{
     Storing, Up40, Up41, Up42, Vend,
 };
 use head::{ErrorCode, MoveFault, Phase};
-use number::Number;
+use number::{Number, Numbered};
 use std::process::Abort;
 use std::test::Fail;
 
@@ -39,8 +39,9 @@ const TARGETS: [Phase; 26] = [
     Up42(Number, 0x63),
 ];
 
-// A mark for each target: '.' it is refused, 'm' the head moves, 't' it moves and takes the bill, 'c' its power
-// is cut, 'C' its power is cut and it takes the bill. The bars only part the groups of targets:
+// A mark for each target, a letter so that a row is one line: '.' it is refused, 'm' the head moves, 't' it moves and
+// takes the bill, 'c' its power is cut, 'C' its power is cut and it takes the bill. The bars only part the groups of
+// targets:
 //  Idle Disabled | Accepting | Escrow | Stacking | Vend | Stacked | Rejecting | Returning | Init | Storing | Error | Up
 struct Row(Phase, bool, &'static [u8]);
 
@@ -171,12 +172,10 @@ const ROWS: [Row; 27] = [
 ];
 
 fn marks_of(phase: Phase, inhibited: bool) -> Result<&'static [u8], Fail> {
-    for Row(from, bit, marks) in &ROWS {
-        if *from == phase && *bit == inhibited {
-            return Ok(*marks);
-        }
-    }
-    Err(Fail::new("a phase without a row"))
+    ROWS.iter()
+        .find(|Row(from, bit, _)| *from == phase && *bit == inhibited)
+        .map(|row| row.2)
+        .ok_or_else(|| Fail::new("a phase without a row"))
 }
 
 // The head goes the way and moves. The answer and the head after are compared with the mark.
@@ -187,7 +186,8 @@ fn own_move(rt: &impl Abort, way: Way, to: Phase, mark: u8) -> Result<(), Fail> 
         b't' => (Ok(true), to, bit),
         b'c' => (Ok(false), to, true),
         b'C' => (Ok(true), to, true),
-        _ => (Err(MoveFault::NotListed), from, bit),
+        b'.' => (Err(MoveFault::NotListed), from, bit),
+        _ => return Err(Fail::new("a mark that stands for nothing")),
     };
     let mut head = bring(rt, way)?;
     assert_eq!(rt; head.make_move(to), wanted);
@@ -198,15 +198,13 @@ fn own_move(rt: &impl Abort, way: Way, to: Phase, mark: u8) -> Result<(), Fail> 
 
 fn row_holds(rt: &impl Abort, way: Way) -> Result<(), Fail> {
     let Way(phase, inhibited, _) = way;
-    let mut tried = 0;
-    for mark in marks_of(phase, inhibited)? {
-        if *mark != b'|' {
-            assert!(rt; tried < TARGETS.len());
-            own_move(rt, way, TARGETS[tried], *mark)?;
-            tried += 1;
-        }
+    let marks = marks_of(phase, inhibited)?
+        .iter()
+        .filter(|mark| **mark != b'|');
+    assert_eq!(rt; marks.clone()?.count(), TARGETS.len());
+    for (mark, to) in marks.zip(&TARGETS) {
+        own_move(rt, way, *to, *mark)?;
     }
-    assert_eq!(rt; tried, TARGETS.len());
     Ok(())
 }
 

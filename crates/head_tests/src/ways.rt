@@ -8,8 +8,8 @@ use number::Number;
 use std::process::Abort;
 use std::test::Fail;
 
-// A phase, an inhibit bit, and the steps that lead there from the start, a letter each (see `take`). A head holds
-// the bill 62H where it holds one.
+// A phase, an inhibit bit, and the steps that lead there from the start (see `take`), a letter each, so that a way is
+// one line and shows which way it prolongs. A head holds the bill 62H where it holds one.
 #[derive(Clone, Copy)]
 pub struct Way(pub Phase, pub bool, pub &'static [u8]);
 
@@ -47,7 +47,7 @@ pub const WAYS: [Way; 27] = [
 // The head receives a message; its answer is let go.
 fn hears(head: &mut Head, command: u8, data: &[u8]) -> Result<(), Fail> {
     let mut line = [0; 7];
-    let _ = frame::write(command, data, &mut line);
+    frame::write(command, data, &mut line)?;
     head.receive(&line, &mut [0; 7])?;
     Ok(())
 }
@@ -75,7 +75,8 @@ fn take(head: &mut Head, step: u8) -> Result<(), Fail> {
         b'1' => moves(head, Up41(Number)),
         b'2' => moves(head, Up42(Number, 0x62)),
         b'f' => moves(head, Error(ErrorCode::StackerFull, 0x05)),
-        _ => moves(head, Error(ErrorCode::Failure, 0x05)),
+        b'g' => moves(head, Error(ErrorCode::Failure, 0x05)),
+        _ => Err(Fail::new("a step that is none")),
     }
 }
 

@@ -1,93 +1,65 @@
--- A line as groups of three: a blank, of which the first is left out, and two digits. Assumes nothing.
-use Rattle.std.proofs.Common.{◌≡◌, ℕ, zero, suc, ◌+◌, ◌-◌, ◌*◌, ◌/◌, ◌%◌, ◌<◌, ◌≤◌, List, [], ◌∷◌, ◌++◌, length, get_or, take, drop, sym, refl, ap, ◌∙◌, append_assoc, arith}
-use Rattle.std.proofs.lemmas.List.{take_more, take_all}
+-- A line as groups of two digits, with one blank between. Assumes nothing.
+use Rattle.std.proofs.Common.{◌≡◌, ◌≢◌, ℕ, zero, suc, ◌+◌, ◌-◌, ◌^◌, ◌/◌, ◌%◌, ◌<◌, false, true, eqb, List, [], ◌∷◌, ◌++◌, length, get_or, take, drop, map, subst, sym, refl, ap, ◌∙◌, arith}
+use Rattle.std.proofs.lemmas.Fmt.{hex_byte}
+use Rattle.std.specs.Fmt.{padded_integral, format_spec, digits}
+use Rattle.std.proofs.lemmas.List.{take_more, get_or-map, length-map}
+use Rattle.std.proofs.lemmas.List.Splits.{slice_split_none, slice_split_at, join_with_byte-slice_split, length-slice_split}
 use Rattle.std.proofs.lemmas.Bool.Decides.{nat_tests}
-use Rattle.hex_text.specs.Spelled.{Bytes, digit, blanked, spelled, Stands}
+use Rattle.std.specs.List.{slice_split, join_with_byte, All}
+use Rattle.hex_text.specs.Spelled.{Bytes, digit, pair, blanked, spelled}
 
-pub length_blanked : (bs : List ℕ) → length (blanked bs) ≡ 3 * length bs
+no_blank : (n : ℕ) → eqb (digit n) 32 ≡ false
+no_blank n = grind (arith, nat_tests)
+
+no_blanks : (b : ℕ) → All (λ x. eqb x 32 ≡ false) (pair b)
+no_blanks b zero d h = no_blank (b / 16)
+no_blanks b (suc zero) d h = no_blank (b % 16)
+no_blanks b (suc (suc k)) d h = absurd (omega arith)
+
+-- the groups of a line that spells bytes are their digits
+split_spelled : (b : ℕ) (bs : List ℕ) → slice_split (λ x. eqb x 32) (spelled (b ∷ bs)) ≡ map pair (b ∷ bs)
 unfolding blanked
-length_blanked [] = refl
-length_blanked (b ∷ bs) = let ih = length_blanked bs in omega arith
+split_spelled b [] = slice_split_none (λ x. eqb x 32) (pair b) (no_blanks b)
+split_spelled b (c ∷ bs) =
+    slice_split_at (λ x. eqb x 32) (pair b) 32 (spelled (c ∷ bs)) (no_blanks b) refl ∙ ap (λ l. pair b ∷ l) (split_spelled c bs)
 
-pub blanked_append : (xs ys : List ℕ) → blanked (xs ++ ys) ≡ blanked xs ++ blanked ys
+pub groups : (line bs : List ℕ) → 0 < length line → line ≡ spelled bs → slice_split (λ x. eqb x 32) line ≡ map pair bs
+unfolding blanked
+groups line [] some is = absurd (omega (arith, ap length is))
+groups line (b ∷ bs) some is = ap (slice_split (λ x. eqb x 32)) is ∙ split_spelled b bs
+
+-- digits with one blank between spell the bytes
+joined : (b : ℕ) (bs : List ℕ) → join_with_byte 32 (map pair (b ∷ bs)) ≡ spelled (b ∷ bs)
+unfolding blanked
+joined b [] = refl
+joined b (c ∷ bs) = ap (λ l. pair b ++ 32 ∷ l) (joined c bs)
+
+pub line_of : (line bs : List ℕ) → slice_split (λ x. eqb x 32) line ≡ map pair bs → line ≡ spelled bs
+line_of line [] is = absurd (omega (arith, length-slice_split (λ x. eqb x 32) line, ap length is))
+line_of line (b ∷ bs) is = sym (join_with_byte-slice_split 32 line) ∙ ap (join_with_byte 32) is ∙ joined b bs
+
+-- a group that is not the digits of a byte
+pub none_spelled : (line group : List ℕ) (i : ℕ) → 0 < length line → (i < length (slice_split (λ x. eqb x 32) line)) × (group ≡ get_or (slice_split (λ x. eqb x 32) line) i group) → ((b : ℕ) → b < 256 → group ≢ pair b) → (bs : List ℕ) → Bytes bs → line ≢ spelled bs
+none_spelled line group i some at none bs fit is =
+    let parts = groups line bs some is in
+    none (get_or bs i 0) (fit i) (at.1 ∙ ap (λ l. get_or l i group) parts ∙ get_or-map pair bs i 0 group (omega (arith, at.0, ap length parts, length-map bs pair)))
+
+pub nothing_spelled : (line items : List ℕ) → length line ≡ 0 → items ≡ [] → Bytes items × (line ≡ spelled items)
+unfolding blanked
+nothing_spelled [] items h e = (subst (λ (l : List ℕ). Bytes l) (sym e) (λ k. omega arith), ap spelled (sym e))
+nothing_spelled (b ∷ line) items h e = absurd (omega arith)
+
+-- what a byte is printed as
+pub two_digits : (b : ℕ) → b < 256 → padded_integral (format_spec 32 0 4 2 (2 ^ 64 - 1)) false [] (digits 16 true b) ≡ pair b
+two_digits b fits = hex_byte true b fits
+
+blanked_append : (xs ys : List ℕ) → blanked (xs ++ ys) ≡ blanked xs ++ blanked ys
 unfolding blanked
 blanked_append [] ys = refl
-blanked_append (x ∷ xs) ys = ap (λ l. 32 ∷ digit (x / 16) ∷ digit (x % 16) ∷ l) (blanked_append xs ys)
-
--- group k
-blanked_at : (bs : List ℕ) (k : ℕ) → k < length bs → (get_or (blanked bs) (3 * k) 0 ≡ 32) × (get_or (blanked bs) (suc (3 * k)) 0 ≡ digit (get_or bs k 0 / 16)) × (get_or (blanked bs) (suc (suc (3 * k))) 0 ≡ digit (get_or bs k 0 % 16))
-unfolding blanked
-blanked_at [] k h = absurd (omega arith)
-blanked_at (b ∷ bs) zero h = (refl, refl, refl)
-blanked_at (b ∷ bs) (suc k) h =
-    let e : 3 * suc k ≡ suc (suc (suc (3 * k))) = omega arith in
-    rw e (blanked_at bs k (omega arith))
-
-with_blank : (line bs : List ℕ) → 0 < length line → line ≡ spelled bs → 32 ∷ line ≡ blanked bs
-unfolding blanked
-with_blank line [] h e = absurd (let n = ap length e in omega arith)
-with_blank line (b ∷ bs) h e = ap (λ l. 32 ∷ l) e
-
-module _ (line bs : List ℕ) (some : 0 < length line) (is : line ≡ spelled bs) where
-  pub groups : suc (length line) ≡ 3 * length bs
-  groups = ap length (with_blank line bs some is) ∙ length_blanked bs
-
-  pub blank_before : (k : ℕ) → 0 < k → k < length bs → get_or line (3 * k - 1) 0 ≡ 32
-  blank_before k pos lt =
-      let e : 3 * k ≡ suc (3 * k - 1) = omega arith in
-      let at = ap (λ l. get_or l (3 * k) 0) (with_blank line bs some is) ∙ (blanked_at bs k lt).0 in
-      ap (λ i. get_or (32 ∷ line) i 0) (sym e) ∙ at
-
-  pub digits_at : (k : ℕ) → k < length bs → Stands line (3 * k) (get_or bs k 0)
-  digits_at k lt =
-      let e : 3 * k + 1 ≡ suc (3 * k) = omega arith in
-      let at = blanked_at bs k lt in
-      (ap (λ l. get_or l (suc (3 * k)) 0) (with_blank line bs some is) ∙ at.1, ap (λ i. get_or line i 0) e ∙ ap (λ l. get_or l (suc (suc (3 * k))) 0) (with_blank line bs some is) ∙ at.2)
-
-three_more : (xs : List ℕ) (i : ℕ) → i + 3 ≤ length xs → take (i + 3) xs ≡ take i xs ++ get_or xs i 0 ∷ get_or xs (i + 1) 0 ∷ get_or xs (i + 2) 0 ∷ []
-three_more xs i h =
-    let a = take_more xs i 0 (omega arith) in
-    let b = take_more xs (i + 1) 0 (omega arith) in
-    let c = take_more xs (i + 2) 0 (omega arith) in
-    let two : i + 1 + 1 ≡ i + 2 = omega arith in
-    let three : i + 2 + 1 ≡ i + 3 = omega arith in
-    ap (λ n. take n xs) (sym three) ∙ c ∙ ap (λ l. l ++ get_or xs (i + 2) 0 ∷ []) (ap (λ n. take n xs) (sym two) ∙ b ∙ ap (λ l. l ++ get_or xs (i + 1) 0 ∷ []) a ∙ append_assoc (take i xs) (get_or xs i 0 ∷ []) (get_or xs (i + 1) 0 ∷ [])) ∙ append_assoc (take i xs) (get_or xs i 0 ∷ get_or xs (i + 1) 0 ∷ []) (get_or xs (i + 2) 0 ∷ [])
-
--- one byte more is read
-pub byte_more : (line items : List ℕ) (k b : ℕ) → 3 * k + 1 < length line → (0 < k → get_or line (3 * k - 1) 0 ≡ 32) → Stands line (3 * k) b → take (3 * k) (32 ∷ line) ≡ blanked items → take (3 * (k + 1)) (32 ∷ line) ≡ blanked (items ++ b ∷ [])
-unfolding blanked
-byte_more line items k b h blank stands before =
-    let n : 3 * (k + 1) ≡ 3 * k + 3 = omega arith in
-    let low : 3 * k + 1 ≡ suc (3 * k) = omega arith in
-    let high : 3 * k + 2 ≡ suc (3 * k + 1) = omega arith in
-    ap (λ i. take i (32 ∷ line)) n ∙ three_more (32 ∷ line) (3 * k) (omega arith) ∙ ap (λ l. l ++ get_or (32 ∷ line) (3 * k) 0 ∷ get_or (32 ∷ line) (3 * k + 1) 0 ∷ get_or (32 ∷ line) (3 * k + 2) 0 ∷ []) before ∙ ap (λ l. blanked items ++ l) (ap (λ x. x ∷ get_or (32 ∷ line) (3 * k + 1) 0 ∷ get_or (32 ∷ line) (3 * k + 2) 0 ∷ []) (space k blank) ∙ ap (λ i. 32 ∷ get_or (32 ∷ line) i 0 ∷ get_or (32 ∷ line) (3 * k + 2) 0 ∷ []) low ∙ ap (λ i. 32 ∷ get_or line (3 * k) 0 ∷ get_or (32 ∷ line) i 0 ∷ []) high ∙ ap (λ x. 32 ∷ x ∷ get_or line (3 * k + 1) 0 ∷ []) stands.0 ∙ ap (λ x. 32 ∷ digit (b / 16) ∷ x ∷ []) stands.1) ∙ sym (blanked_append items (b ∷ []))
-  where
-    space : (k : ℕ) → (0 < k → get_or line (3 * k - 1) 0 ≡ 32) → get_or (32 ∷ line) (3 * k) 0 ≡ 32
-    space zero blank = refl
-    space (suc k) blank =
-        let e : 3 * suc k ≡ suc (3 * suc k - 1) = omega arith in
-        ap (λ i. get_or (32 ∷ line) i 0) e ∙ blank (omega arith)
-
--- all bytes are read
-pub all_read : (line items : List ℕ) (k : ℕ) → suc (length line) ≤ 3 * k → take (3 * k) (32 ∷ line) ≡ blanked items → line ≡ spelled items
-all_read line items k h e = ap (drop 1) (sym (take_all (3 * k) (32 ∷ line) h) ∙ e)
-
--- three pushes put a byte behind the text
-pub pushed : (was one two three : List ℕ) (b high low : ℕ) → b < 256 → high ≡ digit (b / 16 % 16) → low ≡ digit (b % 16) → one ≡ was ++ 32 ∷ [] → two ≡ one ++ high ∷ [] → three ≡ two ++ low ∷ [] → three ≡ was ++ blanked (b ∷ [])
-unfolding blanked
-pushed was one two three b high low fits h l e1 e2 e3 =
-    let small : b / 16 % 16 ≡ b / 16 = omega arith in
-    let group = ap (λ x. 32 ∷ x ∷ low ∷ []) (h ∙ ap digit small) ∙ ap (λ x. 32 ∷ digit (b / 16) ∷ x ∷ []) l in
-    e3 ∙ ap (λ t. t ++ low ∷ []) (e2 ∙ ap (λ t. t ++ high ∷ []) e1 ∙ append_assoc was (32 ∷ []) (high ∷ [])) ∙ append_assoc was (32 ∷ high ∷ []) (low ∷ []) ∙ ap (λ g. was ++ g) group
+blanked_append (x ∷ xs) ys = ap (λ l. 32 ∷ pair x ++ l) (blanked_append xs ys)
 
 pub blanked_more : (bs : List ℕ) (i : ℕ) → i < length bs → blanked (take (i + 1) bs) ≡ blanked (take i bs) ++ blanked (get_or bs i 0 ∷ [])
 blanked_more bs i h = ap blanked (take_more bs i 0 h) ∙ blanked_append (take i bs) (get_or bs i 0 ∷ [])
-
-pub bytes_push : (bs : List ℕ) (b : ℕ) → Bytes bs → b < 256 → Bytes (bs ++ b ∷ [])
-bytes_push [] b fit h zero = h
-bytes_push [] b fit h (suc k) = omega arith
-bytes_push (x ∷ bs) b fit h zero = fit 0
-bytes_push (x ∷ bs) b fit h (suc k) = bytes_push bs b (λ j. fit (suc j)) h k
 
 -- the same digits are the same byte
 digit_number : (m n : ℕ) → m < 16 → n < 16 → digit m ≡ digit n → m ≡ n

@@ -1,11 +1,12 @@
 // Bytes as text: two uppercase hexadecimal digits each, with one blank between.
 #![tactic(auto)]
 
-ghost use Rattle.std.specs.Prelude.{◌≡◌, ◌+◌, ◌%◌, ◌<◌, [], ◌∷◌, ◌++◌, length, IfOk, string_bytes, OnOk};
+ghost use Rattle.std.specs.Prelude.{◌≡◌, IfOk, Some, string_bytes};
 ghost use Rattle.hex_text.specs.declared.HexFault.TheVariants.{NoMemory};
-ghost use Rattle.hex_text.specs.Spelled.{DigitOf, ByteAt, Parsed, blanked, digit};
+ghost use Rattle.hex_text.specs.Spelled.{DigitOf, ByteOf, Parsed, blanked};
 
 use std::alloc::{AllocError, AllocFailed, Global};
+use std::fmt;
 
 #[derive(Clone, Copy, Debug, PartialEq, Eq)]
 pub enum HexFault {
@@ -13,6 +14,8 @@ pub enum HexFault {
     NoMemory,
 }
 
+// The two conversions are written out, since the clauses of `parse` name the error that `?` makes: a derived one
+// promises nothing of it.
 impl From<AllocError> for HexFault {
     ghost from_gives = { λ _ r. r ≡ NoMemory };
 
@@ -24,12 +27,12 @@ impl From<AllocError> for HexFault {
 impl<T: Drop> From<AllocFailed<T>> for HexFault {
     ghost from_gives = { λ _ r. r ≡ NoMemory };
 
-    fn from(_refused: AllocFailed<T>) -> HexFault {
+    fn from(_failed: AllocFailed<T>) -> HexFault {
         HexFault::NoMemory
     }
 }
 
-// The number that an uppercase digit stands for.
+// The number that an uppercase digit stands for. The standard library's `to_digit(16)` takes small letters too.
 fn digit_value(letter: u8) -> Option<u8>
     ensures { DigitOf letter result }
 {
@@ -40,14 +43,14 @@ fn digit_value(letter: u8) -> Option<u8>
     }
 }
 
-// The byte whose two digits stand at a place.
-fn byte_at(line: &[u8], place: usize) -> Option<u8>
-    requires { place + 1 < length line.now }
-    ensures { ByteAt line.now place result }
+// The byte that two uppercase digits spell.
+fn byte_of(group: &[u8]) -> Option<u8>
+    ensures { ByteOf group.now result }
 {
-    let high = digit_value(line[place])?;
-    let low = digit_value(line[place + 1])?;
-    Some(16 * high + low)
+    let [high, low] = group else {
+        return None;
+    };
+    Some(16 * digit_value(*high)? + digit_value(*low)?)
 }
 
 // The bytes that a line of text spells.
@@ -58,51 +61,32 @@ pub fn parse(heap: Global, line: &[u8]) -> Result<Vec<u8>, HexFault>
     if line.is_empty() {
         return Ok(bytes);
     }
-    if line.len() % 3 != 2 {
-        return Err(HexFault::NotHex);
-    }
-    for k in 0..line.len() / 3 + 1 {
-        if k > 0 && line[3 * k - 1] != b' ' {
-            return Err(HexFault::NotHex);
-        }
-        match byte_at(line, 3 * k) {
-            Some(byte) => bytes.push(byte)?,
-            None => return Err(HexFault::NotHex),
-        }
+    for group in line.split(|letter| *letter == b' ') {
+        let byte = byte_of(group).ok_or(HexFault::NotHex)?;
+        bytes.push(byte)?;
     }
     Ok(bytes)
 }
 
-// The uppercase digit of a number below 16; of a greater one, of its last hexadecimal place.
-fn digit_of(number: u8) -> char
-    ensures value { result ≡ digit (number % 16) }
-    ensures ascii { result < 128 }
-{
-    let number = number % 16;
-    if number < 10 {
-        (b'0' + number) as char
-    } else {
-        (b'A' + (number - 10)) as char
-    }
-}
+// Bytes that are printed with a blank before each.
+#[derive(Clone, Copy, Debug)]
+pub struct Blanked<'a>(pub &'a [u8]);
 
-// A blank and the two digits of a byte, behind the text.
-fn push_byte(text: &mut String, byte: u8) -> Result<(), AllocError>
-    ensures { OnOk result (string_bytes text.new ≡ string_bytes text.old ++ blanked (byte ∷ [])) }
-{
-    text.push(' ')?;
-    text.push(digit_of(byte / 16))?;
-    text.push(digit_of(byte))?;
-    Ok(())
+// Written out, since the clause of `spell_blanked` relies on what it prints, its `ghost output`.
+impl fmt::Display for Blanked<'_> {
+    ghost output = { λ x. Some (blanked x.0.now) };
+
+    fn fmt<W: fmt::Write>(&self, f: &mut fmt::Formatter<W>) -> fmt::Result {
+        for &byte in self.0 {
+            write!(f, " {byte:02X}")?;
+        }
+        Ok(())
+    }
 }
 
 // The bytes as text, each with a blank before it.
 pub fn spell_blanked(heap: Global, bytes: &[u8]) -> Result<String, AllocError>
     ensures { IfOk result (λ text. string_bytes text ≡ blanked bytes.now) }
 {
-    let mut text = String::new(heap);
-    for byte in bytes {
-        push_byte(&mut text, *byte)?;
-    }
-    Ok(text)
+    Blanked(bytes).to_string(heap)
 }

@@ -1,3 +1,4 @@
+pub mod Passes
 pub mod Refusals
 pub mod States
 pub mod Heads

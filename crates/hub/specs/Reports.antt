@@ -3,8 +3,11 @@
 --   heard_in bs               the message heard in the received bytes bs, if any; said_in r the same of what hearing answered
 --   status_in bs              the status heard: a message that does not read as one counts as nothing heard; status_of m the
 --                             same of a message; status_read r the same of what the code read
---   first_check s p n room    whether the first report with the pass p, n received bytes and a buffer of this length is
---                             accepted, and for which head: else 18, 19 or 7
+--   check of s p bs           whether the report with the pass p and the received bytes bs is accepted, and for which head:
+--                             else 18 or 19; `of` is first_of for a first report, also one with a power cut inside, and second_of for a
+--                             second
+--   head_accepted r           what accepting a report answers, without the pass that comes with the head
+--   first_check s p bs room   the same of a first report with a buffer of this length: 18, 19 or 7
 --   first_reaction s h bs     the reaction to the received bytes for head h; reaction_in u m the same of its setup u and the
 --                             status m
 --   first_calls s t h bs      the ledger calls of that report, in order, where the ledger holds t
@@ -19,12 +22,10 @@
 --                             taken_by r the same of what the code read
 --   by_head v, length_of m    the verdict v, and the length of the frame m, as a report tells them
 --   buffer_after_first s t d c bs was   the buffer after it
---   second_check s p n        the same of a second report: 18 or 19
---   after_second s c bs       the hub after it; after_hearing s h m the same of the message m heard from head h
+--   after_second s c bs       the hub after a second report that was checked with the answer c; after_hearing s h m the same of the message m heard from head h
 --   sent_in slot              whether a setting was just sent
 --   second_told c bs          what it tells; told_second r the same of what the code answered
---   cut_check s p n           the same of a power cut inside a first report: 18 or 19
---   after_cut s c             the hub after it: restarted
+--   after_cut s c             the hub after a power cut inside a first report that was checked with the answer c: restarted
 --   ledger_after_cut s t c bs k   what the ledger holds after it: the first k calls are made
 --   cut_told s t c bs k       what it tells: how many calls were made
 --
@@ -48,15 +49,14 @@ use Rattle.reaction.specs.Setups.{setting_if, setup_hearing}
 use Rattle.reaction.specs.declared.fault.HeadFault.{HeadFault}
 use Rattle.reaction.specs.declared.reaction.Reaction.{Reaction}
 use Rattle.reaction.specs.declared.setup.Setup.{Setup}
-use Rattle.hub.specs.States.{HubState, setup_of, first_of, first_awaited, second_awaited, restarted}
-use Rattle.hub.specs.declared.pass.FirstPass.{FirstPass}
-use Rattle.hub.specs.declared.pass.SecondPass.{SecondPass}
-use Rattle.hub.specs.declared.refusal.CutRefusal.{CutRefusal}
-use Rattle.hub.specs.declared.refusal.CutRefusal.TheVariants as cut
+use Rattle.hub.specs.Passes.{FirstPass, SecondPass, pass_of}
+use Rattle.hub.specs.Refusals.{CutRefusal, SecondRefusal, first_refusal}
+use Rattle.hub.specs.States.{HubState, setup_of, first_of, awaited_by, restarted}
+use Rattle.hub.specs.declared.pass.Pass.{Pass}
 use Rattle.hub.specs.declared.refusal.FirstRefusal.{FirstRefusal}
 use Rattle.hub.specs.declared.refusal.FirstRefusal.TheVariants as first
-use Rattle.hub.specs.declared.refusal.SecondRefusal.{SecondRefusal}
-use Rattle.hub.specs.declared.refusal.SecondRefusal.TheVariants as second
+use Rattle.hub.specs.declared.refusal.ReportRefusal.{ReportRefusal}
+use Rattle.hub.specs.declared.refusal.ReportRefusal.TheVariants as report
 use Rattle.hub.specs.declared.report.FirstReport.{FirstReport}
 use Rattle.hub.specs.declared.report.ReportFault.{ReportFault}
 use Rattle.hub.specs.declared.report.ReportFault.TheVariants as reported
@@ -83,17 +83,28 @@ status_of (Some m) = read_as (status_answer m.command m.«data»)
 abbrev pub status_in : List ℕ → Option Content
 status_in bs = status_of (heard_in bs)
 
+-- WHICH REPORTS ARE ACCEPTED
+
+abbrev pub handed : {R : Type 0} → Option ℕ → Pass R → List ℕ → Result ℕ (ReportRefusal R)
+handed None p bs = Err (report.NoSuchSlot its_number)
+handed (Some h) p bs = cond (nat_lt 512 (length bs)) (Err (report.TooMuchReceived its_number p)) (Ok h)
+
+abbrev pub check : {R : Type 0} → (Slot → Option ℕ) → HubState → Pass R → List ℕ → Result ℕ (ReportRefusal R)
+check of s p bs = handed (awaited_by of s p.count) p bs
+
+-- the head of a report that was accepted, without its pass
+abbrev pub head_accepted : {P E : Type 0} → Result (ℕ × P) E → Result ℕ E
+head_accepted (Ok accepted) = Ok accepted.0
+head_accepted (Err refusal) = Err refusal
+
 -- THE FIRST REPORT
 
-abbrev pub handed_first : Option ℕ → FirstPass → ℕ → ℕ → Result ℕ FirstRefusal
-handed_first None p n room = Err (first.NoSuchSlot its_number)
-handed_first (Some h) p n room =
-    cond (nat_lt 512 n) (Err (first.TooMuchReceived its_number p))
-    (cond (nat_lt room 7) (Err (first.BufferTooShort its_number p))
-    (Ok h))
+abbrev pub with_room : ℕ → FirstPass → Result ℕ CutRefusal → Result ℕ FirstRefusal
+with_room room p (Ok h) = cond (nat_lt room 7) (Err (first.BufferTooShort its_number p)) (Ok h)
+with_room room p (Err e) = Err (first_refusal e)
 
-abbrev pub first_check : HubState → FirstPass → ℕ → ℕ → Result ℕ FirstRefusal
-first_check s p n room = handed_first (first_awaited s p.count) p n room
+abbrev pub first_check : HubState → FirstPass → List ℕ → ℕ → Result ℕ FirstRefusal
+first_check s p bs room = with_room room p (check first_of s p bs)
 
 -- nothing is done for a head without a setup, which no open slot is for
 abbrev pub reaction_in : Option Setup → Option Content → Reaction
@@ -178,7 +189,7 @@ first_told s t d p (Ok h) bs = Ok (record {
   heard = hear_answer bs;
   taken = taken_as (heard_in bs) (by_head (first_verdict s t (d h) h bs));
   long = length_of (first_sent s t (d h) h bs);
-  pass = record { count = p.count };
+  pass = pass_of p.count;
 })
 first_told s t d p (Err e) bs = Err e
 
@@ -196,13 +207,6 @@ taken_by (Ok status) next = next
 taken_by (Err e) next = Err (reported.Status e)
 
 -- THE SECOND REPORT
-
-abbrev pub handed_second : Option ℕ → SecondPass → ℕ → Result ℕ SecondRefusal
-handed_second None p n = Err (second.NoSuchSlot its_number)
-handed_second (Some h) p n = cond (nat_lt 512 n) (Err (second.TooMuchReceived its_number p)) (Ok h)
-
-abbrev pub second_check : HubState → SecondPass → ℕ → Result ℕ SecondRefusal
-second_check s p n = handed_second (second_awaited s p.count) p n
 
 -- whether a setting was just sent
 abbrev pub sent_in : Slot → Bool
@@ -232,13 +236,6 @@ told_second (Ok heard) = Ok (told_heard heard)
 told_second (Err e) = Err e
 
 -- A POWER CUT INSIDE THE FIRST REPORT
-
-abbrev pub handed_cut : Option ℕ → FirstPass → ℕ → Result ℕ CutRefusal
-handed_cut None p n = Err (cut.NoSuchSlot its_number)
-handed_cut (Some h) p n = cond (nat_lt 512 n) (Err (cut.TooMuchReceived its_number p)) (Ok h)
-
-abbrev pub cut_check : HubState → FirstPass → ℕ → Result ℕ CutRefusal
-cut_check s p n = handed_cut (first_awaited s p.count) p n
 
 abbrev pub after_cut : HubState → Result ℕ CutRefusal → HubState
 after_cut s (Ok h) = restarted s

@@ -12,6 +12,7 @@ use Rattle.frame.specs.Frames.{Content, content, buffer_after}
 use Rattle.orders.specs.Choice.{chosen}
 use Rattle.orders.specs.Slots.{after_serving}
 use Rattle.orders.specs.Tables.{is_empty}
+use Rattle.hub.specs.Passes.{pass_of}
 use Rattle.hub.specs.States.{HubState, is_open, next_count}
 use Rattle.hub.specs.declared.pass.Opening.{Opening}
 use Rattle.hub.specs.declared.refusal.OpeningRefusal.{OpeningRefusal}
@@ -23,7 +24,7 @@ poll_message = content 0x11 []
 
 -- a slot for the head chosen
 abbrev pub opened_for : HubState → Option ℕ → Result Opening OpeningRefusal
-opened_for s (Some h) = Ok (record { head = h; pass = record { count = next_count s } })
+opened_for s (Some h) = Ok (record { head = h; pass = pass_of (next_count s) })
 opened_for s None = Err opening.NoHead
 
 abbrev pub opening_answer : HubState → ℕ → ℕ → Result Opening OpeningRefusal

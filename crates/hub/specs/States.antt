@@ -1,15 +1,14 @@
 -- What the hub knows of its heads and of the open slot, and what is awaited.
 --
---   HubState             the state of a hub, without its ledger: the turn table, the setups of the admitted heads, the slot,
+--   HubState             what clauses see of a hub's state, without its ledger: the turn table, the setups of the admitted heads, the slot,
 --                        and the slot count
---   state_of s           a hub's own state as a HubState
 --   new_state            a new hub
 --   restarted s          the hub after a restart: no head is admitted, no slot is open, the count stays
 --   is_open slot         whether a slot is open
 --   served_by slot       the head that the open slot is for
 --   setup_of s h         the setup of head h, if it is admitted
---   first_awaited s n    the head whose first report the hub awaits from a pass with the count n
---   second_awaited s n   the same of the second report
+--   first_of slot        the head whose first report a slot awaits, if it awaits one; second_of slot the same of the second
+--   awaited_by of s n    the head whose report the hub awaits from a pass with the count n, where `of` is first_of or second_of
 --   next_count s         the count of the next slot: 1 for the first, modulo 2^64
 --
 -- Assumes nothing.
@@ -18,16 +17,12 @@ use Rattle.orders.specs.Tables.{Table, empty_table}
 use Rattle.reaction.specs.declared.setup.Setup.{Setup}
 use Rattle.hub.specs.declared.state.Slot.{Slot}
 use Rattle.hub.specs.declared.state.Slot.TheVariants.{Closed, First, Second}
-use Rattle.hub.specs.declared.state.State.{State}
 
 pub record HubState : Type 0 where
   pub table : Table
   pub setups : List (Option Setup)
   pub slot : Slot
   pub count : ℕ
-
-abbrev pub state_of : State → HubState
-state_of s = record { table = s.turns.heads; setups = s.setups; slot = s.slot; count = s.count }
 
 abbrev pub new_state : HubState
 new_state = record { table = empty_table; setups = replicate 14 None; slot = Closed; count = 0 }
@@ -56,11 +51,8 @@ second_of Closed = None
 second_of (First h) = None
 second_of (Second h sent) = Some h
 
-abbrev pub first_awaited : HubState → ℕ → Option ℕ
-first_awaited s n = cond (n == s.count) (first_of s.slot) None
-
-abbrev pub second_awaited : HubState → ℕ → Option ℕ
-second_awaited s n = cond (n == s.count) (second_of s.slot) None
+abbrev pub awaited_by : (Slot → Option ℕ) → HubState → ℕ → Option ℕ
+awaited_by of s n = cond (n == s.count) (of s.slot) None
 
 abbrev pub next_count : HubState → ℕ
 next_count s = (s.count + 1) % 2 ^ 64

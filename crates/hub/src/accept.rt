@@ -1,10 +1,10 @@
 // Which reports the hub accepts, and what becomes of their passes.
-ghost use Rattle.std.specs.Prelude.{◌≡◌};
-ghost use Rattle.hub.specs.Reports.{cut_check, first_check, second_check};
-ghost use Rattle.hub.specs.States.{state_of};
+ghost use Rattle.std.specs.Prelude.{◌≡◌, IfOk};
+ghost use Rattle.hub.specs.Reports.{check, first_check, head_accepted};
+ghost use Rattle.hub.specs.States.{awaited_by};
 
-use crate::pass::{FirstPass, SecondPass};
-use crate::refusal::{CutRefusal, FirstRefusal, SecondRefusal};
+use crate::pass::{FirstPass, Pass, Report};
+use crate::refusal::{FirstRefusal, ReportRefusal};
 use crate::state::State;
 use number::Number;
 
@@ -14,59 +14,51 @@ const MOST_RECEIVED: usize = 512;
 // The longest second frame: a setting with two data bytes.
 const LONGEST_SECOND_FRAME: usize = 7;
 
-// Each of these answers the head that the report is for, and spends the pass, or gives it back in the refusal.
 impl State {
+    // The head whose report is awaited from this pass.
+    fn awaited<R: Report>(&self, pass: &Pass<R>) -> Option<u8>
+        ensures { result ≡ awaited_by R.awaited self.now pass.now.count }
+    {
+        if pass.count() == self.count {
+            R::awaited(self.slot)
+        } else {
+            None
+        }
+    }
+
+    // The head that the report is for, and the pass again, which the report spends; or the pass comes back in the refusal.
+    pub(crate) fn accept<R: Report>(
+        &self,
+        pass: Pass<R>,
+        received: &[u8],
+    ) -> Result<(u8, Pass<R>), ReportRefusal<R>>
+        ensures answer { head_accepted result ≡ check R.awaited self.now pass received.now }
+        ensures pass { IfOk result (λ accepted. accepted.1 ≡ pass) }
+    {
+        let Some(head) = self.awaited(&pass) else {
+            pass.spend();
+            return Err(ReportRefusal::NoSuchSlot(Number));
+        };
+        if received.len() > MOST_RECEIVED {
+            return Err(ReportRefusal::TooMuchReceived(Number, pass));
+        }
+        Ok((head, pass))
+    }
+
+    // The same of a first report, which writes a second frame as well.
     pub(crate) fn accept_first(
         &self,
         pass: FirstPass,
-        received: usize,
+        received: &[u8],
         room: usize,
-    ) -> Result<u8, FirstRefusal>
-        ensures { result ≡ first_check (state_of self.now) pass received room }
+    ) -> Result<(u8, FirstPass), FirstRefusal>
+        ensures answer { head_accepted result ≡ first_check self.now pass received.now room }
+        ensures pass { IfOk result (λ accepted. accepted.1 ≡ pass) }
     {
-        let Some(head) = self.first_awaited(pass.count) else {
-            let FirstPass { count: _ } = pass;
-            return Err(FirstRefusal::NoSuchSlot(Number));
-        };
-        if received > MOST_RECEIVED {
-            return Err(FirstRefusal::TooMuchReceived(Number, pass));
-        }
+        let (head, pass) = self.accept(pass, received)?;
         if room < LONGEST_SECOND_FRAME {
             return Err(FirstRefusal::BufferTooShort(Number, pass));
         }
-        let FirstPass { count: _ } = pass;
-        Ok(head)
-    }
-
-    pub(crate) fn accept_second(
-        &self,
-        pass: SecondPass,
-        received: usize,
-    ) -> Result<u8, SecondRefusal>
-        ensures { result ≡ second_check (state_of self.now) pass received }
-    {
-        let Some(head) = self.second_awaited(pass.count) else {
-            let SecondPass { count: _ } = pass;
-            return Err(SecondRefusal::NoSuchSlot(Number));
-        };
-        if received > MOST_RECEIVED {
-            return Err(SecondRefusal::TooMuchReceived(Number, pass));
-        }
-        let SecondPass { count: _ } = pass;
-        Ok(head)
-    }
-
-    pub(crate) fn accept_cut(&self, pass: FirstPass, received: usize) -> Result<u8, CutRefusal>
-        ensures { result ≡ cut_check (state_of self.now) pass received }
-    {
-        let Some(head) = self.first_awaited(pass.count) else {
-            let FirstPass { count: _ } = pass;
-            return Err(CutRefusal::NoSuchSlot(Number));
-        };
-        if received > MOST_RECEIVED {
-            return Err(CutRefusal::TooMuchReceived(Number, pass));
-        }
-        let FirstPass { count: _ } = pass;
-        Ok(head)
+        Ok((head, pass))
     }
 }

@@ -1,7 +1,6 @@
 // Admission and dismissal.
 ghost use Rattle.std.specs.Prelude.{◌≡◌};
 ghost use Rattle.hub.specs.Heads.{Admits, after_dismissal, dismissal_answer};
-ghost use Rattle.hub.specs.States.{state_of};
 
 use crate::refusal::{AdmissionRefusal, DismissalRefusal};
 use crate::state::State;
@@ -12,7 +11,7 @@ impl State {
     // Admits a head with none of its settings confirmed. The sheet is checked first of all, since checking changes
     // nothing; what is wrong with it is told in its turn.
     pub(crate) fn admit(&mut self, number: u8, draft: &Draft) -> Result<(), AdmissionRefusal>
-        ensures { Admits (state_of self.old) number draft.now result (state_of self.new) }
+        ensures { Admits self.old number draft.now result self.new }
     {
         let checked = Sheet::check(draft);
         if self.is_open() {
@@ -26,8 +25,8 @@ impl State {
     }
 
     pub(crate) fn dismiss(&mut self, number: u8) -> Result<(), DismissalRefusal>
-        ensures answer { result ≡ dismissal_answer (state_of self.old) number }
-        ensures after { state_of self.new ≡ after_dismissal (state_of self.old) number }
+        ensures answer { result ≡ dismissal_answer self.old number }
+        ensures after { self.new ≡ after_dismissal self.old number }
     {
         if self.is_open() {
             return Err(DismissalRefusal::SlotOpen);

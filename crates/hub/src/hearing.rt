@@ -15,10 +15,7 @@ use status::{Status, StatusFault};
 pub(crate) fn said<'a>(heard: Result<Heard<'a>, NothingHeard>) -> Option<Message<'a>>
     ensures { option_map message_content result ≡ said_in (told_heard heard.entry) }
 {
-    match heard {
-        Ok(heard) => Some(heard.message),
-        Err(_) => None,
-    }
+    heard.ok().map(|heard| heard.message)
 }
 
 // The status heard, if any, or why the message heard is none.
@@ -28,11 +25,9 @@ pub(crate) fn status_heard<'a>(
     ensures status { status_read result ≡ status_of (said_in (told_heard heard.entry)) }
     ensures fault { (next : Result (Unit {0}) Fault) → taken_by result next ≡ taken_as (said_in (told_heard heard.entry)) next }
 {
-    let Ok(heard) = heard else {
-        return Ok(None);
-    };
-    let status = status::read(heard.message.command(), heard.message.data())?;
-    Ok(Some(status))
+    said(heard)
+        .map(|message| status::read(message.command(), message.data()))
+        .transpose()
 }
 
 // Whether the hub took what the head said: the message must be a status, and a bill in escrow must be promised.

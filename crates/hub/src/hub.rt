@@ -2,18 +2,18 @@
 ghost use Rattle.std.specs.Prelude.{◌≡◌, length};
 ghost use Rattle.hub.specs.Heads.{Admits, after_dismissal, dismissal_answer};
 ghost use Rattle.reaction.specs.Calls.{listed};
-ghost use Rattle.hub.specs.Reports.{after_cut, after_first, after_second, buffer_after_first, calls_awaited, cut_check, cut_told, first_check, first_told, ledger_after_cut, ledger_after_first, second_check, second_told, told_first, told_second};
+ghost use Rattle.hub.specs.Reports.{after_cut, after_first, after_second, buffer_after_first, calls_awaited, check, cut_told, first_check, first_told, ledger_after_cut, ledger_after_first, second_told, told_first, told_second};
 ghost use Rattle.hub.specs.Slots.{after_opening, opening_answer, poll_written};
-ghost use Rattle.hub.specs.States.{new_state, restarted, served_by, setup_of, state_of};
+ghost use Rattle.hub.specs.States.{first_of, new_state, restarted, second_of, served_by, setup_of};
 
 use crate::hearing::{said, status_heard, taken};
-use crate::pass::{FirstPass, Opening, SecondPass};
+use crate::pass::{First, FirstPass, Opening, Report, SecondPass};
 use crate::refusal::{
     AdmissionRefusal, CutRefusal, DismissalRefusal, FirstRefusal, OpeningRefusal, SecondRefusal,
 };
 use crate::replies::write_frame;
 use crate::report::FirstReport;
-use crate::state::{Slot, State};
+use crate::state::State;
 use ledger::Ledger;
 use message::{Heard, NothingHeard};
 use reaction::{Calls, Setup, perform, perform_some};
@@ -25,17 +25,10 @@ pub struct Hub<L> {
     ledger: L,
 }
 
-// The amount that is promised for a head; nothing where there is no such head.
-fn promised<L: Ledger>(ledger: &L, head: u8) -> Option<u32>
-    ensures { result ≡ (L.Ledger.held ledger.now head).promised }
-{
-    ledger.promised(head).unwrap_or(None)
-}
-
 impl<L: Ledger> Hub<L> {
     // A hub with no head.
     pub fn new(ledger: L) -> Hub<L>
-        ensures after { state_of result.state ≡ new_state }
+        ensures after { result.state ≡ new_state }
         ensures ledger { result.ledger ≡ ledger }
     {
         Hub {
@@ -46,15 +39,15 @@ impl<L: Ledger> Hub<L> {
 
     // Admits a head with the sheet that it is to work by.
     pub fn admit(&mut self, number: u8, draft: &Draft) -> Result<(), AdmissionRefusal>
-        ensures admits { Admits (state_of self.old.state) number draft.now result (state_of self.new.state) }
+        ensures admits { Admits self.old.state number draft.now result self.new.state }
         ensures ledger { self.new.ledger ≡ self.old.ledger }
     {
         self.state.admit(number, draft)
     }
 
     pub fn dismiss(&mut self, number: u8) -> Result<(), DismissalRefusal>
-        ensures answer { result ≡ dismissal_answer (state_of self.old.state) number }
-        ensures after { state_of self.new.state ≡ after_dismissal (state_of self.old.state) number }
+        ensures answer { result ≡ dismissal_answer self.old.state number }
+        ensures after { self.new.state ≡ after_dismissal self.old.state number }
         ensures ledger { self.new.ledger ≡ self.old.ledger }
     {
         self.state.dismiss(number)
@@ -62,8 +55,8 @@ impl<L: Ledger> Hub<L> {
 
     // Opens a slot for the head whose turn it is, and writes its poll to the start of the buffer, whose rest stays.
     pub fn open(&mut self, wish: u8, buffer: &mut [u8]) -> Result<Opening, OpeningRefusal>
-        ensures answer { result ≡ opening_answer (state_of self.old.state) wish (length buffer.old) }
-        ensures after { state_of self.new.state ≡ after_opening (state_of self.old.state) wish result }
+        ensures answer { result ≡ opening_answer self.old.state wish (length buffer.old) }
+        ensures after { self.new.state ≡ after_opening self.old.state wish result }
         ensures written { buffer.new ≡ poll_written result buffer.old }
         ensures ledger { self.new.ledger ≡ self.old.ledger }
     {
@@ -78,14 +71,17 @@ impl<L: Ledger> Hub<L> {
         received: &'a [u8],
         buffer: &mut [u8],
     ) -> Result<FirstReport<'a>, FirstRefusal>
-        ensures told { told_first result ≡ first_told (state_of self.old.state) (L.Ledger.held self.old.ledger) (L.Ledger.depth self.old.ledger) pass (first_check (state_of self.old.state) pass (length received.now) (length buffer.old)) received.now }
-        ensures after { state_of self.new.state ≡ after_first (state_of self.old.state) (first_check (state_of self.old.state) pass (length received.now) (length buffer.old)) received.now }
-        ensures ledger { L.Ledger.held self.new.ledger ≡ ledger_after_first (state_of self.old.state) (L.Ledger.held self.old.ledger) (first_check (state_of self.old.state) pass (length received.now) (length buffer.old)) received.now }
+        ensures told { let checked = first_check self.old.state pass received.now (length buffer.old) in
+            told_first result ≡ first_told self.old.state (L.Ledger.held self.old.ledger) (L.Ledger.depth self.old.ledger) pass checked received.now }
+        ensures after { let checked = first_check self.old.state pass received.now (length buffer.old) in
+            self.new.state ≡ after_first self.old.state checked received.now }
+        ensures ledger { let checked = first_check self.old.state pass received.now (length buffer.old) in
+            L.Ledger.held self.new.ledger ≡ ledger_after_first self.old.state (L.Ledger.held self.old.ledger) checked received.now }
         ensures kept { L.Ledger.keeps self.old.ledger self.new.ledger }
-        ensures written { buffer.new ≡ buffer_after_first (state_of self.old.state) (L.Ledger.held self.old.ledger) (L.Ledger.depth self.old.ledger) (first_check (state_of self.old.state) pass (length received.now) (length buffer.old)) received.now buffer.old }
+        ensures written { let checked = first_check self.old.state pass received.now (length buffer.old) in
+            buffer.new ≡ buffer_after_first self.old.state (L.Ledger.held self.old.ledger) (L.Ledger.depth self.old.ledger) checked received.now buffer.old }
     {
-        let count = pass.count;
-        let head = self.state.accept_first(pass, received.len(), buffer.len())?;
+        let (head, pass) = self.state.accept_first(pass, received, buffer.len())?;
         let heard = message::hear(received);
         let status = status_heard(heard);
         let reaction = self.state.reaction(head, status);
@@ -96,7 +92,7 @@ impl<L: Ledger> Hub<L> {
             heard,
             taken: taken(status, verdict),
             length: write_frame(&frame, buffer),
-            pass: SecondPass { count },
+            pass: pass.into_second(),
         })
     }
 
@@ -108,12 +104,16 @@ impl<L: Ledger> Hub<L> {
         received: &[u8],
         calls: usize,
     ) -> Result<usize, CutRefusal>
-        ensures told { result ≡ cut_told (state_of self.old.state) (L.Ledger.held self.old.ledger) (cut_check (state_of self.old.state) pass (length received.now)) received.now calls }
-        ensures after { state_of self.new.state ≡ after_cut (state_of self.old.state) (cut_check (state_of self.old.state) pass (length received.now)) }
-        ensures ledger { L.Ledger.held self.new.ledger ≡ ledger_after_cut (state_of self.old.state) (L.Ledger.held self.old.ledger) (cut_check (state_of self.old.state) pass (length received.now)) received.now calls }
+        ensures told { let checked = check first_of self.old.state pass received.now in
+            result ≡ cut_told self.old.state (L.Ledger.held self.old.ledger) checked received.now calls }
+        ensures after { let checked = check first_of self.old.state pass received.now in
+            self.new.state ≡ after_cut self.old.state checked }
+        ensures ledger { let checked = check first_of self.old.state pass received.now in
+            L.Ledger.held self.new.ledger ≡ ledger_after_cut self.old.state (L.Ledger.held self.old.ledger) checked received.now calls }
         ensures kept { L.Ledger.keeps self.old.ledger self.new.ledger }
     {
-        let head = self.state.accept_cut(pass, received.len())?;
+        let (head, pass) = self.state.accept(pass, received)?;
+        pass.spend();
         let reaction = self
             .state
             .reaction(head, status_heard(message::hear(received)));
@@ -125,9 +125,9 @@ impl<L: Ledger> Hub<L> {
     // The ledger calls that a first report of the open slot with these bytes would make; none if no first report is
     // awaited.
     pub fn first_calls(&self, received: &[u8]) -> Calls
-        ensures { listed result ≡ calls_awaited (state_of self.now.state) (L.Ledger.held self.now.ledger) received.now }
+        ensures { listed result ≡ calls_awaited self.now.state (L.Ledger.held self.now.ledger) received.now }
     {
-        let Slot::First(head) = self.state.slot else {
+        let Some(head) = First::awaited(self.state.slot) else {
             return Calls {
                 ending: None,
                 promise: None,
@@ -136,7 +136,7 @@ impl<L: Ledger> Hub<L> {
         let reaction = self
             .state
             .reaction(head, status_heard(message::hear(received)));
-        reaction.calls(promised(&self.ledger, head))
+        reaction.calls_now(&self.ledger, head)
     }
 
     // Takes the bytes received after the second frame, and closes the slot. A setting just sent is confirmed if they
@@ -146,11 +146,12 @@ impl<L: Ledger> Hub<L> {
         pass: SecondPass,
         received: &'a [u8],
     ) -> Result<Result<Heard<'a>, NothingHeard>, SecondRefusal>
-        ensures told { told_second result ≡ second_told (second_check (state_of self.old.state) pass (length received.now)) received.now }
-        ensures after { state_of self.new.state ≡ after_second (state_of self.old.state) (second_check (state_of self.old.state) pass (length received.now)) received.now }
+        ensures told { told_second result ≡ second_told (check second_of self.old.state pass received.now) received.now }
+        ensures after { self.new.state ≡ after_second self.old.state (check second_of self.old.state pass received.now) received.now }
         ensures ledger { self.new.ledger ≡ self.old.ledger }
     {
-        let head = self.state.accept_second(pass, received.len())?;
+        let (head, pass) = self.state.accept(pass, received)?;
+        pass.spend();
         let heard = message::hear(received);
         self.state.hear_second(head, said(heard));
         Ok(heard)
@@ -159,7 +160,7 @@ impl<L: Ledger> Hub<L> {
     // What is left after a power cut: the ledger and the slot count, so that a pass from before it fits no later slot until
     // the count has gone round.
     pub fn restart(&mut self)
-        ensures after { state_of self.new.state ≡ restarted (state_of self.old.state) }
+        ensures after { self.new.state ≡ restarted self.old.state }
         ensures ledger { self.new.ledger ≡ self.old.ledger }
     {
         self.state.restart();
@@ -186,7 +187,7 @@ impl<L: Ledger> Hub<L> {
 
     // A head's sheet and how many of its settings are confirmed, if it is admitted.
     pub fn setup(&self, head: u8) -> Option<Setup>
-        ensures { result ≡ setup_of (state_of self.now.state) head }
+        ensures { result ≡ setup_of self.now.state head }
     {
         self.state.setup(head)
     }

@@ -13,9 +13,10 @@ mod slots;
 mod state;
 
 pub use hub::Hub;
-pub use pass::{FirstPass, Opening, SecondPass};
+pub use pass::{First, FirstPass, Opening, Pass, Report, Second, SecondPass};
 pub use refusal::{
-    AdmissionRefusal, CutRefusal, DismissalRefusal, FirstRefusal, OpeningRefusal, SecondRefusal,
+    AdmissionRefusal, CutRefusal, DismissalRefusal, FirstRefusal, OpeningRefusal, ReportRefusal,
+    SecondRefusal,
 };
 pub use report::{FirstReport, ReportFault};
 pub use state::{Slot, State};

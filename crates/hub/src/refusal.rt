@@ -2,32 +2,40 @@
 // from the top.
 ghost use Rattle.std.specs.Prelude.{◌≡◌};
 ghost use Rattle.hub.specs.Heads.{admission_refusal, dismissal_refusal, sheet_refusal};
-ghost use Rattle.hub.specs.Refusals.{admission_number, cut_number, dismissal_number, first_number, opening_number, second_number};
+ghost use Rattle.hub.specs.Refusals.{admission_number, dismissal_number, first_number, first_refusal, opening_number, report_number};
 
-use crate::pass::{FirstPass, SecondPass};
-use number::Number;
+use crate::pass::{First, FirstPass, Pass, Report, Second};
+use number::{Number, Numbered};
 use sheet::SheetFault;
 use std::fmt;
+use thiserror::Error;
 use turns::fault::{AdmissionFault, DismissalFault};
 
-#[derive(Clone, Copy, Debug, PartialEq, Eq)]
+// Each call has an enum of its own, here and below: it can refuse with nothing else, and the definition shows every number.
+#[derive(Clone, Copy, Debug, PartialEq, Eq, Error)]
 pub enum AdmissionRefusal {
+    #[error("{}: a slot is open", self.number())]
     SlotOpen = 11,
+    #[error("{}: head number over 13", self.number())]
     NumberOver13 = 12,
+    #[error("{}: head admitted already", self.number())]
     AdmittedAlready = 13,
+    #[error("{}: the sheet is wrong", self.number())]
     SheetWrong = 14,
     // With this head there would be more heads than some head's limit allows, its own or another's.
+    #[error("{}: heads would outnumber a limit", self.number())]
     Outnumbered = 15,
 }
 
-impl AdmissionRefusal {
-    pub fn number(self) -> u8
-        ensures { result ≡ admission_number self }
-    {
-        self as u8
+impl Numbered for AdmissionRefusal {
+    ghost number_of = { admission_number };
+
+    fn number(&self) -> u8 {
+        *self as u8
     }
 }
 
+// By hand, here and below: clauses name the error that `?` makes, and of a derived `From` they would know nothing.
 impl From<AdmissionFault> for AdmissionRefusal {
     ghost from_gives = { λ f r. r ≡ admission_refusal f };
 
@@ -50,31 +58,21 @@ impl From<SheetFault> for AdmissionRefusal {
     }
 }
 
-impl fmt::Display for AdmissionRefusal {
-    fn fmt<W: fmt::Write>(&self, f: &mut fmt::Formatter<W>) -> fmt::Result {
-        let number = self.number();
-        match *self {
-            AdmissionRefusal::SlotOpen => write!(f, "{number}: a slot is open"),
-            AdmissionRefusal::NumberOver13 => write!(f, "{number}: head number over 13"),
-            AdmissionRefusal::AdmittedAlready => write!(f, "{number}: head admitted already"),
-            AdmissionRefusal::SheetWrong => write!(f, "{number}: the sheet is wrong"),
-            AdmissionRefusal::Outnumbered => write!(f, "{number}: heads would outnumber a limit"),
-        }
-    }
-}
-
-#[derive(Clone, Copy, Debug, PartialEq, Eq)]
+#[derive(Clone, Copy, Debug, PartialEq, Eq, Error)]
 pub enum DismissalRefusal {
+    #[error("{}: a slot is open", self.number())]
     SlotOpen = 11,
+    #[error("{}: head number over 13", self.number())]
     NumberOver13 = 12,
+    #[error("{}: head not admitted", self.number())]
     NotAdmitted = 16,
 }
 
-impl DismissalRefusal {
-    pub fn number(self) -> u8
-        ensures { result ≡ dismissal_number self }
-    {
-        self as u8
+impl Numbered for DismissalRefusal {
+    ghost number_of = { dismissal_number };
+
+    fn number(&self) -> u8 {
+        *self as u8
     }
 }
 
@@ -89,48 +87,69 @@ impl From<DismissalFault> for DismissalRefusal {
     }
 }
 
-impl fmt::Display for DismissalRefusal {
-    fn fmt<W: fmt::Write>(&self, f: &mut fmt::Formatter<W>) -> fmt::Result {
-        let number = self.number();
-        match *self {
-            DismissalRefusal::SlotOpen => write!(f, "{number}: a slot is open"),
-            DismissalRefusal::NumberOver13 => write!(f, "{number}: head number over 13"),
-            DismissalRefusal::NotAdmitted => write!(f, "{number}: head not admitted"),
+#[derive(Clone, Copy, Debug, PartialEq, Eq, Error)]
+pub enum OpeningRefusal {
+    #[error("{}: a slot is open", self.number())]
+    SlotOpen = 11,
+    #[error("{}: no head is admitted", self.number())]
+    NoHead = 17,
+    // The buffer has no room for a poll.
+    #[error("{}: the buffer is too short for the poll", self.number())]
+    BufferTooShort = 7,
+}
+
+impl Numbered for OpeningRefusal {
+    ghost number_of = { opening_number };
+
+    fn number(&self) -> u8 {
+        *self as u8
+    }
+}
+
+// A report refused, for whatever it is: a second one, or a first one that the power cut off. With 18 the pass is spent; else
+// it comes back.
+#[derive(Debug)]
+pub enum ReportRefusal<R: Report> {
+    // The hub awaits no such report with this pass's count.
+    NoSuchSlot(Number<18>),
+    // More than 512 bytes were received.
+    TooMuchReceived(Number<19>, Pass<R>),
+}
+
+pub type SecondRefusal = ReportRefusal<Second>;
+
+pub type CutRefusal = ReportRefusal<First>;
+
+impl<R: Report> Numbered for ReportRefusal<R> {
+    ghost number_of = { report_number };
+
+    fn number(&self) -> u8 {
+        match self {
+            ReportRefusal::NoSuchSlot(number) => number.value(),
+            ReportRefusal::TooMuchReceived(number, _) => number.value(),
         }
     }
 }
 
-#[derive(Clone, Copy, Debug, PartialEq, Eq)]
-pub enum OpeningRefusal {
-    SlotOpen = 11,
-    NoHead = 17,
-    // The buffer has no room for a poll.
-    BufferTooShort = 7,
-}
-
-impl OpeningRefusal {
-    pub fn number(self) -> u8
-        ensures { result ≡ opening_number self }
-    {
-        self as u8
-    }
-}
-
-impl fmt::Display for OpeningRefusal {
+// By hand, here and below: the derive asks for `Drop`, and a refusal that holds a pass must not be let go.
+impl<R: Report> fmt::Display for ReportRefusal<R> {
     fn fmt<W: fmt::Write>(&self, f: &mut fmt::Formatter<W>) -> fmt::Result {
-        let number = self.number();
-        match *self {
-            OpeningRefusal::SlotOpen => write!(f, "{number}: a slot is open"),
-            OpeningRefusal::NoHead => write!(f, "{number}: no head is admitted"),
-            OpeningRefusal::BufferTooShort => write!(
+        match self {
+            ReportRefusal::NoSuchSlot(number) => {
+                let report = R::NAME;
+                write!(f, "{number}: no {report} report is awaited with this pass")
+            }
+            ReportRefusal::TooMuchReceived(number, _) => write!(
                 f,
-                "{number}: the buffer is too short for the poll"
+                "{number}: more than 512 bytes were received"
             ),
         }
     }
 }
 
-// A first report refused. With 18 the pass is spent; else it comes back.
+// A first report refused. With 18 the pass is spent; else it comes back. Two cases are those of any report, but its own, so
+// that this definition shows each number that a first report is refused with, and what comes with it.
+#[derive(Debug)]
 pub enum FirstRefusal {
     // The hub awaits no first report with this pass's count.
     NoSuchSlot(Number<18>),
@@ -140,10 +159,10 @@ pub enum FirstRefusal {
     BufferTooShort(Number<7>, FirstPass),
 }
 
-impl FirstRefusal {
-    pub fn number(&self) -> u8
-        ensures { result ≡ first_number self.now }
-    {
+impl Numbered for FirstRefusal {
+    ghost number_of = { first_number };
+
+    fn number(&self) -> u8 {
         match self {
             FirstRefusal::NoSuchSlot(number) => number.value(),
             FirstRefusal::TooMuchReceived(number, _) => number.value(),
@@ -152,91 +171,33 @@ impl FirstRefusal {
     }
 }
 
+impl From<ReportRefusal<First>> for FirstRefusal {
+    ghost from_gives = { λ refusal r. r ≡ first_refusal refusal };
+
+    fn from(refusal: ReportRefusal<First>) -> FirstRefusal {
+        match refusal {
+            ReportRefusal::NoSuchSlot(number) => FirstRefusal::NoSuchSlot(number),
+            ReportRefusal::TooMuchReceived(number, pass) => FirstRefusal::TooMuchReceived(
+                number, pass,
+            ),
+        }
+    }
+}
+
 impl fmt::Display for FirstRefusal {
     fn fmt<W: fmt::Write>(&self, f: &mut fmt::Formatter<W>) -> fmt::Result {
-        let number = self.number();
         match self {
-            FirstRefusal::NoSuchSlot(_) => write!(
+            FirstRefusal::NoSuchSlot(number) => write!(
                 f,
                 "{number}: no first report is awaited with this pass"
             ),
-            FirstRefusal::TooMuchReceived(_, _) => write!(
+            FirstRefusal::TooMuchReceived(number, _) => write!(
                 f,
                 "{number}: more than 512 bytes were received"
             ),
-            FirstRefusal::BufferTooShort(_, _) => write!(
+            FirstRefusal::BufferTooShort(number, _) => write!(
                 f,
                 "{number}: the buffer is too short for a second frame"
-            ),
-        }
-    }
-}
-
-// A second report refused. With 18 the pass is spent; else it comes back.
-pub enum SecondRefusal {
-    // The hub awaits no second report with this pass's count.
-    NoSuchSlot(Number<18>),
-    // More than 512 bytes were received.
-    TooMuchReceived(Number<19>, SecondPass),
-}
-
-impl SecondRefusal {
-    pub fn number(&self) -> u8
-        ensures { result ≡ second_number self.now }
-    {
-        match self {
-            SecondRefusal::NoSuchSlot(number) => number.value(),
-            SecondRefusal::TooMuchReceived(number, _) => number.value(),
-        }
-    }
-}
-
-impl fmt::Display for SecondRefusal {
-    fn fmt<W: fmt::Write>(&self, f: &mut fmt::Formatter<W>) -> fmt::Result {
-        let number = self.number();
-        match self {
-            SecondRefusal::NoSuchSlot(_) => write!(
-                f,
-                "{number}: no second report is awaited with this pass"
-            ),
-            SecondRefusal::TooMuchReceived(_, _) => write!(
-                f,
-                "{number}: more than 512 bytes were received"
-            ),
-        }
-    }
-}
-
-// A power cut inside a first report that the hub would have refused. With 18 the pass is spent; else it comes back.
-pub enum CutRefusal {
-    // The hub awaits no first report with this pass's count.
-    NoSuchSlot(Number<18>),
-    // More than 512 bytes were received.
-    TooMuchReceived(Number<19>, FirstPass),
-}
-
-impl CutRefusal {
-    pub fn number(&self) -> u8
-        ensures { result ≡ cut_number self.now }
-    {
-        match self {
-            CutRefusal::NoSuchSlot(number) => number.value(),
-            CutRefusal::TooMuchReceived(number, _) => number.value(),
-        }
-    }
-}
-
-impl fmt::Display for CutRefusal {
-    fn fmt<W: fmt::Write>(&self, f: &mut fmt::Formatter<W>) -> fmt::Result {
-        let number = self.number();
-        match self {
-            CutRefusal::NoSuchSlot(_) => write!(
-                f,
-                "{number}: no first report is awaited with this pass"
-            ),
-            CutRefusal::TooMuchReceived(_, _) => write!(
-                f,
-                "{number}: more than 512 bytes were received"
             ),
         }
     }

@@ -4,9 +4,8 @@ ghost use Rattle.std.specs.Option.{option_map};
 ghost use Rattle.message.specs.Kinds.{message_content};
 ghost use Rattle.reaction.specs.Frames.{frame_content, sent_setting, written};
 ghost use Rattle.reaction.specs.Reactions.{no_reaction, setup_after};
-ghost use Rattle.reaction.specs.Setups.{setting_if, setup_hearing};
 ghost use Rattle.hub.specs.Reports.{after_hearing, after_reply, length_of, reaction_in, sends_setting, sent_by, sent_in, status_read};
-ghost use Rattle.hub.specs.States.{setup_of, state_of};
+ghost use Rattle.hub.specs.States.{setup_of};
 
 use crate::state::{Slot, State};
 use message::Message;
@@ -23,7 +22,8 @@ fn no_reaction() -> Reaction
     }
 }
 
-// Puts a head's setup in its place, if there is such a head.
+// Puts a head's setup in its place, if there is such a head; by its index, since of a slice that was written through
+// `get_mut` a proof knows no element.
 fn put_setup(setups: &mut [Option<Setup>], head: u8, setup: Option<Setup>)
     ensures { setups.new ≡ slice_set setups.old head setup }
 {
@@ -34,53 +34,38 @@ fn put_setup(setups: &mut [Option<Setup>], head: u8, setup: Option<Setup>)
 }
 
 // A head that is reset has to be set up anew.
-fn setup_after(setup: Option<Setup>, reaction: &Reaction) -> Option<Setup>
-    ensures { result ≡ option_map (λ u. setup_after u reaction.now) setup }
+fn setup_after(setup: Setup, reaction: &Reaction) -> Setup
+    ensures { result ≡ setup_after setup reaction.now }
 {
-    let Some(setup) = setup else {
-        return None;
-    };
     match reaction.reply {
-        Reply::Reset => Some(Setup::new(setup.sheet)),
-        _ => Some(setup),
+        Reply::Reset => Setup::new(setup.sheet),
+        _ => setup,
     }
 }
 
-// The echo of a setting that was just sent confirms it.
-fn setup_hearing<'a>(setup: Option<Setup>, sent: bool, said: Option<Message<'a>>) -> Option<Setup>
-    ensures { result ≡ option_map (λ u. setup_hearing (setting_if sent u) (option_map message_content said.entry) u) setup }
-{
-    let Some(mut setup) = setup else {
-        return None;
-    };
-    setup.hear(sent, said);
-    Some(setup)
-}
-
-// Writes a second frame to the start of a buffer that has room for the longest, and tells its length, 0 for none.
-pub(crate) fn write_frame(frame: &SecondFrame, buffer: &mut [u8]) -> usize
+// Writes a second frame, if there is one, to the start of a buffer, and tells its length: 0 for none, so that whoever puts
+// that many bytes of the buffer on the line puts none. The caller has refused with 7 a buffer without room for the longest.
+pub(crate) fn write_frame(frame: &Option<SecondFrame>, buffer: &mut [u8]) -> usize
     requires { 7 ≤ length buffer.old }
     ensures long { result ≡ length_of (frame_content frame.now) }
     ensures after { buffer.new ≡ (written (frame_content frame.now) buffer.old).0 }
 {
-    match frame.write(buffer) {
-        Ok(length) => length,
-        Err(_) => unreachable(),
+    // No `map_or`: of a buffer that a closure changes nothing would be known afterwards.
+    match frame {
+        Some(frame) => frame.write(buffer).unwrap(),
+        None => 0,
     }
 }
 
 impl State {
     // The reaction to a status of a head: none where no status was heard, or the head is not admitted.
     pub(crate) fn reaction(&self, head: u8, status: Result<Option<Status>, StatusFault>) -> Reaction
-        ensures { result ≡ reaction_in (setup_of (state_of self.now) head) (status_read status) }
+        ensures { result ≡ reaction_in (setup_of self.now head) (status_read status) }
     {
-        let Some(setup) = self.setup(head) else {
-            return no_reaction();
-        };
-        let Some(status) = status.unwrap_or(None) else {
-            return no_reaction();
-        };
-        react(&setup, status)
+        match (self.setup(head), status.ok().flatten()) {
+            (Some(setup), Some(status)) => react(&setup, status),
+            _ => no_reaction(),
+        }
     }
 
     // The second frame that a reaction comes to, where the verdict tells why a bill in escrow is returned, if it is.
@@ -89,44 +74,50 @@ impl State {
         head: u8,
         reaction: &Reaction,
         verdict: Result<(), HeadFault>,
-    ) -> SecondFrame
-        ensures frame { frame_content result ≡ sent_by (setup_of (state_of self.now) head) reaction.now verdict }
-        ensures setting { is_some (sent_setting result) ≡ sends_setting (setup_of (state_of self.now) head) reaction.now }
+    ) -> Option<SecondFrame>
+        ensures frame { frame_content result ≡ sent_by (setup_of self.now head) reaction.now verdict }
+        ensures setting { is_some (sent_setting result) ≡ sends_setting (setup_of self.now head) reaction.now }
     {
-        match self.setup(head) {
-            Some(setup) => reaction.reply.second_frame(&setup, verdict),
-            None => SecondFrame::Nothing,
-        }
+        self.setup(head)
+            .and_then(|setup| reaction.reply.second_frame(&setup, verdict))
     }
 
     // Goes on to await the second report, after this frame was sent to the head.
-    pub(crate) fn reply(&mut self, head: u8, reaction: &Reaction, frame: &SecondFrame)
-        ensures { state_of self.new ≡ after_reply (state_of self.old) head reaction.now (is_some (sent_setting frame.now)) }
+    pub(crate) fn reply(&mut self, head: u8, reaction: &Reaction, frame: &Option<SecondFrame>)
+        ensures { self.new ≡ after_reply self.old head reaction.now (is_some (sent_setting frame.now)) }
     {
-        let setup = setup_after(self.setup(head), reaction);
+        let setup = self.setup(head).map(|setup| setup_after(setup, reaction));
         put_setup(&mut self.setups, head, setup);
-        let sent = match frame {
-            SecondFrame::Setting(_) => true,
-            _ => false,
+        self.slot = Slot::Second {
+            head,
+            setting_sent: matches!(frame, Some(SecondFrame::Setting(_))),
         };
-        self.slot = Slot::Second(head, sent);
     }
 
     // Whether a setting was just sent.
     fn setting_sent(&self) -> bool
         ensures { result ≡ sent_in self.now.slot }
     {
-        match self.slot {
-            Slot::Second(_, sent) => sent,
-            _ => false,
-        }
+        matches!(
+            self.slot,
+            Slot::Second {
+                setting_sent: true,
+                ..
+            }
+        )
     }
 
     // Takes what was heard after the second frame, and closes the slot.
     pub(crate) fn hear_second<'a>(&mut self, head: u8, said: Option<Message<'a>>)
-        ensures { state_of self.new ≡ after_hearing (state_of self.old) head (option_map message_content said.entry) }
+        ensures { self.new ≡ after_hearing self.old head (option_map message_content said.entry) }
     {
-        let setup = setup_hearing(self.setup(head), self.setting_sent(), said);
+        let mut setup = self.setup(head);
+        // The echo of a setting that was just sent confirms it.
+        if self.setting_sent()
+            && let Some(setup) = &mut setup
+        {
+            setup.hear(said);
+        }
         put_setup(&mut self.setups, head, setup);
         self.slot = Slot::Closed;
     }

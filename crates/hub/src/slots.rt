@@ -1,9 +1,8 @@
 // Opening a slot.
 ghost use Rattle.std.specs.Prelude.{◌≡◌, length};
 ghost use Rattle.hub.specs.Slots.{after_opening, opening_answer, poll_written};
-ghost use Rattle.hub.specs.States.{state_of};
 
-use crate::pass::{FirstPass, Opening};
+use crate::pass::{Opening, Pass};
 use crate::refusal::OpeningRefusal;
 use crate::state::{Slot, State};
 
@@ -16,8 +15,8 @@ const POLL_LENGTH: usize = 5;
 impl State {
     // Opens a slot for the head whose turn it is, and writes the poll for it to the start of the buffer, whose rest stays.
     pub(crate) fn open(&mut self, wish: u8, buffer: &mut [u8]) -> Result<Opening, OpeningRefusal>
-        ensures answer { result ≡ opening_answer (state_of self.old) wish (length buffer.old) }
-        ensures after { state_of self.new ≡ after_opening (state_of self.old) wish result }
+        ensures answer { result ≡ opening_answer self.old wish (length buffer.old) }
+        ensures after { self.new ≡ after_opening self.old wish result }
         ensures written { buffer.new ≡ poll_written result buffer.old }
     {
         if self.is_open() {
@@ -29,15 +28,13 @@ impl State {
         if buffer.len() < POLL_LENGTH {
             return Err(OpeningRefusal::BufferTooShort);
         }
-        let Some(head) = self.turns.serve(wish) else {
-            return Err(OpeningRefusal::NoHead);
-        };
-        let _ = frame::write(POLL, &[], buffer);
+        let head = self.turns.serve(wish).ok_or(OpeningRefusal::NoHead)?;
+        frame::write(POLL, &[], buffer).unwrap();
         self.slot = Slot::First(head);
         self.count = self.count.wrapping_add(1);
         Ok(Opening {
             head,
-            pass: FirstPass { count: self.count },
+            pass: Pass::new(self.count),
         })
     }
 }

@@ -1,35 +1,46 @@
 // What the hub knows of its heads and of the open slot.
 ghost use Rattle.std.specs.Prelude.{◌≡◌};
-ghost use Rattle.hub.specs.States.{first_awaited, is_open, new_state, restarted, second_awaited, served_by, setup_of, state_of};
+ghost use Rattle.hub.specs.States.{is_open, new_state, restarted, served_by, setup_of};
 
 use ledger::HEADS;
 use reaction::Setup;
+use std::marker::Model;
 use turns::table::TurnTable;
 
 // The slot, by what it awaits.
-#[derive(Clone, Copy)]
+#[derive(Clone, Copy, Debug, PartialEq, Eq)]
 pub enum Slot {
     Closed,
     // The first report, for this head.
     First(u8),
     // The second report, for this head; whether its first unconfirmed setting was just sent to it.
-    Second(u8, bool),
+    Second { head: u8, setting_sent: bool },
 }
 
 #[derive(Drop)]
 pub struct State {
     // Who is admitted, and whose turn it is.
     pub(crate) turns: TurnTable,
-    // The setup of each admitted head.
+    // The setup of each admitted head, by its number. It stands beside the turn table, which keeps an invariant of its own over
+    // its array of heads and knows nothing of sheets.
     pub(crate) setups: [Option<Setup>; HEADS],
     pub(crate) slot: Slot,
     // How many slots were opened, modulo 2^64.
     pub(crate) count: u64,
 }
 
+// Clauses see what the hub knows, without the proofs that its turn table holds.
+impl Model for State {
+    ghost use Rattle.hub.specs.States.{HubState};
+
+    ghost Value = { HubState };
+
+    ghost view = { λ s. record { table = s.turns.heads; setups = s.setups; slot = s.slot; count = s.count } };
+}
+
 impl State {
     pub(crate) fn new() -> State
-        ensures { state_of result ≡ new_state }
+        ensures { result ≡ new_state }
     {
         State {
             turns: TurnTable::new(),
@@ -42,7 +53,7 @@ impl State {
     // No head is admitted and no slot is open. The count goes on, so that a pass from before the restart fits no later slot
     // until the count has gone round.
     pub(crate) fn restart(&mut self)
-        ensures { state_of self.new ≡ restarted (state_of self.old) }
+        ensures { self.new ≡ restarted self.old }
     {
         self.turns.dismiss_all();
         self.setups = [None; HEADS];
@@ -55,7 +66,7 @@ impl State {
     {
         match self.slot {
             Slot::Closed => None,
-            Slot::First(head) | Slot::Second(head, _) => Some(head),
+            Slot::First(head) | Slot::Second { head, .. } => Some(head),
         }
     }
 
@@ -67,31 +78,8 @@ impl State {
 
     // The setup of a head, if it is admitted.
     pub(crate) fn setup(&self, head: u8) -> Option<Setup>
-        ensures { result ≡ setup_of (state_of self.now) head }
+        ensures { result ≡ setup_of self.now head }
     {
-        match self.setups.get(head as usize) {
-            Some(setup) => *setup,
-            None => None,
-        }
-    }
-
-    // The head whose first report is awaited from a pass with this count.
-    pub(crate) fn first_awaited(&self, count: u64) -> Option<u8>
-        ensures { result ≡ first_awaited (state_of self.now) count }
-    {
-        match self.slot {
-            Slot::First(head) if count == self.count => Some(head),
-            _ => None,
-        }
-    }
-
-    // The head whose second report is awaited from a pass with this count.
-    pub(crate) fn second_awaited(&self, count: u64) -> Option<u8>
-        ensures { result ≡ second_awaited (state_of self.now) count }
-    {
-        match self.slot {
-            Slot::Second(head, _) if count == self.count => Some(head),
-            _ => None,
-        }
+        self.setups.get(head as usize).copied().flatten()
     }
 }

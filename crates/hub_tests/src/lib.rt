@@ -1,4 +1,4 @@
-// A hub at work, and what its refusals print.
+// A hub at work, and what its refusals tell.
 #![tactic(auto)]
 
 #[cfg(test)]

@@ -14,7 +14,7 @@ const NONE: Pair = Pair {
 };
 
 // Limit 1; the code 61H is worth 500.
-const SHEET: Draft = Draft {
+pub(crate) const SHEET: Draft = Draft {
     limit: 1,
     denominations: [
         Pair {
@@ -38,7 +38,8 @@ const SHEET: Draft = Draft {
 #[derive(Clone, Copy)]
 struct Said(u8, &'static [u8]);
 
-// Puts a message's frame at the start of the line, and tells how long it is: 0 for silence.
+// Puts a message's frame at the start of the line, and tells how long it is: 0 for silence, of which the line then has
+// no byte.
 fn say(rt: &impl Abort, said: Option<Said>, line: &mut [u8; 16]) -> usize
     ensures { result ≤ 16 }
 {

@@ -9,8 +9,9 @@
 --
 -- Assumes nothing.
 use Rattle.std.specs.Prelude.{◌≡◌, ℕ, ◌+◌, ◌-◌, min, cond, List, is_ok, None, ◌==◌, slice_index, slice_set}
-use Rattle.std.proofs.Common.{ap, ◌∙◌, arith}
-use Rattle.ledger.specs.Held.{most_places, Held, Heads, nothing, Within}
+use Rattle.std.proofs.Common.{ap, ◌∙◌}
+use Rattle.std.proofs.Math.Nat.{min-zero, min-le_right, add-le-add, mul-le-mul_left, le_refl, le_trans}
+use Rattle.ledger.specs.Held.{most_amount, most_places, Held, Heads, nothing, Within}
 use Rattle.ledger.specs.Answers.{Answer}
 use Rattle.layers.specs.Depths.{deeper}
 use Rattle.layers.specs.declared.limit.Limit.{Limit}
@@ -31,14 +32,11 @@ left_after_promise left h r = cond (is_ok r) (slice_set left h (slice_index left
 abbrev pub left_after_give_back : List ℕ → ℕ → Answer → List ℕ
 left_after_give_back left h r = cond (is_ok r) (slice_set left h (min most_places (slice_index left h + 1))) left
 
--- of no places there are none left
-no_places : (left : ℕ) → min left 0 ≡ 0
-no_places left = omega arith
-
 pub limit_beyond : {L : Type 0} (held : L → Heads) (s : Limit L) (h : ℕ) → held s.below h ≡ nothing → limit_held held s h ≡ nothing
 limit_beyond held s h e =
     ap (limited (slice_index s.left h)) e
-    ∙ ap (λ n. record { promised = None; credited = 0; places = n }) (no_places (slice_index s.left h))
+    ∙ ap (λ n. record { promised = None; credited = 0; places = n }) (min-zero (slice_index s.left h))
 
 pub limit_within : {L : Type 0} (held : L → Heads) (s : Limit L) (h : ℕ) → Within (held s.below h) → Within (limit_held held s h)
-limit_within held s h within = omega arith
+limit_within held s h within =
+    le_trans (add-le-add (le_refl _) (mul-le-mul_left most_amount (add-le-add (min-le_right (slice_index s.left h) _) (le_refl _)))) within

@@ -4,10 +4,9 @@ ghost use Rattle.ledger.specs.Starts.{accepted};
 ghost use Rattle.ledger.specs.Answers.{question, promise_answer, end_answer, promised_after, settled_after, given_back_after};
 ghost use Rattle.layers.specs.Limits.{limit_held, limit_depth, limit_beyond, limit_within, left_after_promise, left_after_give_back};
 
-use crate::depth::from_below;
+use crate::depth::one_deeper;
 use ledger::starts::accepted_starts;
-use ledger::{HEADS, Ledger, LedgerFault, MOST_AMOUNT, MOST_PLACES, head_index};
-use number::Number;
+use ledger::{HEADS, Ledger, LedgerFault, MOST_PLACES, check_promise, head_index};
 
 #[derive(Drop)]
 pub struct Limit<L> {
@@ -38,8 +37,7 @@ impl<L> Limit<L> {
     pub fn into_below(self) -> L
         ensures { result ≡ self.below }
     {
-        let Limit { left: _, below } = self;
-        below
+        self.below
     }
 }
 
@@ -82,17 +80,9 @@ impl<L: Ledger> Ledger for Limit<L> {
         ensures under { L.Ledger.held self.new.below ≡ (if is_ok result then promised_after (L.Ledger.held self.old.below) head amount else L.Ledger.held self.old.below) }
     {
         let index = head_index(head)?;
-        if amount == 0 || amount > MOST_AMOUNT {
-            return Err(LedgerFault::BadAmount(Number));
-        }
-        if let Some(_) = self.below.promised(head)? {
-            return Err(LedgerFault::AlreadyPromised(Number));
-        }
         let left = self.left[index];
-        if left == 0 {
-            return Err(LedgerFault::NoPlace(Number, 0));
-        }
-        from_below(self.below.promise(head, amount))?;
+        check_promise(amount, self.below.promised(head)?, left)?;
+        self.below.promise(head, amount).map_err(one_deeper)?;
         self.left[index] = left - 1;
         Ok(())
     }

@@ -1,59 +1,62 @@
 // A tally of the settled bills of each head, over any ledger.
-ghost use Rattle.std.specs.Prelude.{◌≡◌, replicate, slice_index};
+ghost use Rattle.std.specs.Prelude.{◌≡◌, replicate, slice_index_or};
 ghost use Rattle.std.specs.Option.{unwrap_or};
 ghost use Rattle.ledger.specs.Held.{heads};
 ghost use Rattle.ledger.specs.Answers.{question, promise_answer, end_answer, promised_after, settled_after, given_back_after};
-ghost use Rattle.layers.specs.Tallies.{tally_held, tally_depth, counts_after, latest_after};
+ghost use Rattle.layers.specs.Tallies.{tally_held, tally_depth, untallied, tallied_after};
 
-use crate::depth::from_below;
+use crate::depth::one_deeper;
 use ledger::{HEADS, Ledger, LedgerFault, head_index};
 use number::Number;
 
+// What is tallied of a head: how many bills were settled, and the amount of the latest. The amount is a plain number, 0
+// at first, as docs/LEDGERS.md promises it: the count beside it tells whether there was one.
+#[derive(Clone, Copy, Debug, PartialEq, Eq)]
+pub struct Tallied {
+    count: u32,
+    latest: u32,
+}
+
 #[derive(Drop)]
 pub struct Tally<L> {
-    counts: [u32; HEADS],
-    latest: [u32; HEADS],
+    tallied: [Tallied; HEADS],
     below: L,
 }
 
 impl<L> Tally<L> {
     // A tally that has counted nothing yet.
     pub fn new(below: L) -> Tally<L>
-        ensures counts { result.counts ≡ replicate heads 0 }
-        ensures latest { result.latest ≡ replicate heads 0 }
+        ensures tallied { result.tallied ≡ replicate heads untallied }
         ensures below { result.below ≡ below }
     {
         Tally {
-            counts: [0; HEADS],
-            latest: [0; HEADS],
+            tallied: [Tallied {
+                count: 0,
+                latest: 0,
+            }; HEADS],
             below,
         }
     }
 
     // How many bills of a head were settled through this tally, stopping at the largest number.
     pub fn count(&self, head: u8) -> Result<u32, LedgerFault>
-        ensures { result ≡ question head (slice_index self.now.counts head) }
+        ensures { result ≡ question head (slice_index_or self.now.tallied head untallied).count }
     {
-        Ok(self.counts[head_index(head)?])
+        Ok(self.tallied[head_index(head)?].count)
     }
 
     // The latest amount settled for a head through this tally, 0 before the first.
     pub fn latest(&self, head: u8) -> Result<u32, LedgerFault>
-        ensures { result ≡ question head (slice_index self.now.latest head) }
+        ensures { result ≡ question head (slice_index_or self.now.tallied head untallied).latest }
     {
-        Ok(self.latest[head_index(head)?])
+        Ok(self.tallied[head_index(head)?].latest)
     }
 
     // The ledger below, as it is.
     pub fn into_below(self) -> L
         ensures { result ≡ self.below }
     {
-        let Tally {
-            counts: _,
-            latest: _,
-            below,
-        } = self;
-        below
+        self.below
     }
 }
 
@@ -90,27 +93,27 @@ impl<L: Ledger> Ledger for Tally<L> {
         ensures answer { result ≡ promise_answer (tally_held L.Ledger.held self.old) (tally_depth L.Ledger.depth self.old head) head amount }
         ensures after { tally_held L.Ledger.held self.new ≡ promised_after (tally_held L.Ledger.held self.old) head amount }
         ensures kept { L.Ledger.keeps self.old.below self.new.below }
-        ensures counts { self.new.counts ≡ self.old.counts }
-        ensures latest { self.new.latest ≡ self.old.latest }
+        ensures tallied { self.new.tallied ≡ self.old.tallied }
     {
-        from_below(self.below.promise(head, amount))
+        self.below.promise(head, amount).map_err(one_deeper)
     }
 
     fn settle(&mut self, head: u8) -> Result<(), LedgerFault>
         ensures answer { result ≡ end_answer (tally_held L.Ledger.held self.old) head }
         ensures after { tally_held L.Ledger.held self.new ≡ settled_after (tally_held L.Ledger.held self.old) head }
         ensures kept { L.Ledger.keeps self.old.below self.new.below }
-        ensures counts { self.new.counts ≡ counts_after self.old.counts head result }
-        ensures latest { self.new.latest ≡ latest_after self.old.latest head (unwrap_or (tally_held L.Ledger.held self.old head).promised 0) result }
+        ensures tallied { self.new.tallied ≡ tallied_after self.old.tallied head (unwrap_or (tally_held L.Ledger.held self.old head).promised 0) result }
     {
         let index = head_index(head)?;
-        let Some(amount) = self.below.promised(head)? else {
-            return Err(LedgerFault::NonePromised(Number));
-        };
+        let amount = self
+            .below
+            .promised(head)?
+            .ok_or(LedgerFault::NonePromised(Number))?;
         self.below.settle(head)?;
-        let count = self.counts[index];
-        self.counts[index] = count.saturating_add(1);
-        self.latest[index] = amount;
+        self.tallied[index] = Tallied {
+            count: self.tallied[index].count.saturating_add(1),
+            latest: amount,
+        };
         Ok(())
     }
 
@@ -118,8 +121,7 @@ impl<L: Ledger> Ledger for Tally<L> {
         ensures answer { result ≡ end_answer (tally_held L.Ledger.held self.old) head }
         ensures after { tally_held L.Ledger.held self.new ≡ given_back_after (tally_held L.Ledger.held self.old) head }
         ensures kept { L.Ledger.keeps self.old.below self.new.below }
-        ensures counts { self.new.counts ≡ self.old.counts }
-        ensures latest { self.new.latest ≡ self.old.latest }
+        ensures tallied { self.new.tallied ≡ self.old.tallied }
     {
         self.below.give_back(head)
     }

@@ -30,9 +30,9 @@ refused_changes_nothing = record {
 }
 
 -- what an accepted end of a promise finds promised
-some_of : (o : Option ℕ) → is_some o ≡ true → (a : ℕ) × (o ≡ Some a)
+pub some_of : {X : Type 0} (o : Option X) → is_some o ≡ true → (x : X) × (o ≡ Some x)
 some_of None is = absurd (both_ways false refl is)
-some_of (Some a) is = (a, refl)
+some_of (Some x) is = (x, refl)
 
 ended : (t : Heads) (h : ℕ) → is_ok (end_answer t h) ≡ true → (a : ℕ) × ((t h).promised ≡ Some a)
 ended t h ok = some_of (t h).promised (grind (arith, nat_tests))

@@ -1,2 +1,1 @@
-mod Fits
 pub mod CallLaws

@@ -4,6 +4,9 @@
 --   its_number               the number that a case of a fault holds, which the case's type fixes
 --   Answer                   what a call answers: done, or the fault
 --   question h x             the answer x to a question about head h: 21 if there is no such head
+--   promise_check p n d a    the answer to a promise of a for a head for which p is promised and n places are free: 22, 23,
+--                            24 with depth d, else done
+--   end_check p              the answer to an end of the promise p: 25 if it is none, else done
 --   promise_answer t d h a   the answer to a promise of a for head h: 21, 22, 23, 24 with depth d, else done
 --   end_answer t h           the answer to settling and to giving back, which end a promise: 21, 25, else done
 --   promised_after t h a     what is held after a promise of a for head h
@@ -14,7 +17,7 @@
 -- but h. With 21 nothing is looked up for h.
 --
 -- Assumes nothing.
-use Rattle.std.specs.Prelude.{ℕ, cond, ◌||◌, is_some, is_ok, Ok, Err, Result, ◌==◌, nat_le, nat_lt}
+use Rattle.std.specs.Prelude.{ℕ, cond, ◌||◌, is_some, is_ok, Option, Ok, Err, Result, ◌==◌, nat_le, nat_lt}
 use Rattle.number.specs.Shown.{shown}
 use Rattle.number.specs.declared.Number.{Number}
 use Rattle.ledger.specs.Held.{heads, most_amount, Heads, with_head, promising, settling, giving_back}
@@ -37,19 +40,21 @@ Answer = Result (Unit {0}) LedgerFault
 abbrev pub question : {A : Type 0} → ℕ → A → Result A LedgerFault
 question h x = cond (nat_le heads h) (Err (NoSuchHead its_number)) (Ok x)
 
+abbrev pub promise_check : Option ℕ → ℕ → ℕ → ℕ → Answer
+promise_check promised places d a =
+    cond (a == 0 || nat_lt most_amount a) (Err (BadAmount its_number))
+    (cond (is_some promised) (Err (AlreadyPromised its_number))
+    (cond (places == 0) (Err (NoPlace its_number d))
+    (Ok tt)))
+
+abbrev pub end_check : Option ℕ → Answer
+end_check promised = cond (is_some promised) (Ok tt) (Err (NonePromised its_number))
+
 abbrev pub promise_answer : Heads → ℕ → ℕ → ℕ → Answer
-promise_answer t d h a =
-    cond (nat_le heads h) (Err (NoSuchHead its_number))
-    (cond (a == 0 || nat_lt most_amount a) (Err (BadAmount its_number))
-    (cond (is_some (t h).promised) (Err (AlreadyPromised its_number))
-    (cond ((t h).places == 0) (Err (NoPlace its_number d))
-    (Ok tt))))
+promise_answer t d h a = cond (nat_le heads h) (Err (NoSuchHead its_number)) (promise_check (t h).promised (t h).places d a)
 
 abbrev pub end_answer : Heads → ℕ → Answer
-end_answer t h =
-    cond (nat_le heads h) (Err (NoSuchHead its_number))
-    (cond (is_some (t h).promised) (Ok tt)
-    (Err (NonePromised its_number)))
+end_answer t h = cond (nat_le heads h) (Err (NoSuchHead its_number)) (end_check (t h).promised)
 
 abbrev pub promised_after : Heads → ℕ → ℕ → Heads
 promised_after t h a = cond (is_ok (promise_answer t 0 h a)) (with_head t h (promising (t h) a)) t

@@ -6,7 +6,8 @@
 --   accepted starts        the starts, or 0 for every head if they are refused
 --
 -- Assumes nothing.
-use Rattle.std.specs.Prelude.{ℕ, Bool, true, cond, ◌&&◌, List, [], ◌∷◌, replicate, Ok, Err, Result, nat_le}
+use Rattle.std.specs.Prelude.{ℕ, Bool, cond, List, replicate, Ok, Err, Result, nat_le}
+use Rattle.std.specs.List.{list_all}
 use Rattle.ledger.specs.Held.{heads, most_places}
 use Rattle.ledger.specs.declared.StartFault.{StartFault}
 use Rattle.ledger.specs.declared.StartFault.TheVariants.{AboveMost}
@@ -15,8 +16,7 @@ abbrev pub start_fault_number : StartFault → ℕ
 start_fault_number AboveMost = 26
 
 abbrev pub all_fit : List ℕ → Bool
-all_fit [] = true
-all_fit (start ∷ starts) = nat_le start most_places && all_fit starts
+all_fit starts = list_all (λ start. nat_le start most_places) starts
 
 abbrev pub starts_answer : List ℕ → Result (Unit {0}) StartFault
 starts_answer starts = cond (all_fit starts) (Ok tt) (Err AboveMost)

@@ -6,10 +6,10 @@
 ghost use Rattle.std.specs.Prelude.{◌≡◌, ℕ, ◌≤◌};
 ghost use Rattle.ledger.specs.Held.{heads, Heads, nothing, Within, Amount};
 ghost use Rattle.ledger.specs.Starts.{start_fault_number};
-ghost use Rattle.ledger.specs.Answers.{fault_number, question, promise_answer, end_answer, promised_after, settled_after, given_back_after};
+ghost use Rattle.ledger.specs.Answers.{fault_number, question, promise_check, promise_answer, end_answer, promised_after, settled_after, given_back_after};
 
-use number::Number;
-use std::fmt;
+use number::{Number, Numbered};
+use thiserror::Error;
 
 mod head_record;
 pub mod laws;
@@ -26,21 +26,27 @@ pub const MOST_AMOUNT: u32 = 255_000_000;
 pub const MOST_PLACES: u16 = 4_000;
 
 // Why a ledger refuses a call. Each case shows its number.
-#[derive(Clone, Copy, Debug, PartialEq, Eq)]
+#[derive(Clone, Copy, Debug, PartialEq, Eq, Error)]
 pub enum LedgerFault {
+    #[error("{0}: there is no such head")]
     NoSuchHead(Number<21>),
+    #[error("{0}: the amount is not 1 to 255,000,000")]
     BadAmount(Number<22>),
+    #[error("{0}: an amount is promised already")]
     AlreadyPromised(Number<23>),
     // No place is free. The depth says how far down the pile of ledgers that was found, 0 for the top.
+    #[error("{0}: no place is free, at depth {1}")]
     NoPlace(Number<24>, u32),
+    #[error("{0}: no amount is promised")]
     NonePromised(Number<25>),
 }
 
-impl LedgerFault {
-    pub fn number(self) -> u8
-        ensures { result ≡ fault_number self }
-    {
-        match self {
+impl Numbered for LedgerFault {
+    ghost number_of = { fault_number };
+
+    fn number(&self) -> u8 {
+        // Each number has a type of its own, so that no one pattern takes them all.
+        match *self {
             LedgerFault::NoSuchHead(number) => number.value(),
             LedgerFault::BadAmount(number) => number.value(),
             LedgerFault::AlreadyPromised(number) => number.value(),
@@ -50,42 +56,18 @@ impl LedgerFault {
     }
 }
 
-impl fmt::Display for LedgerFault {
-    fn fmt<W: fmt::Write>(&self, f: &mut fmt::Formatter<W>) -> fmt::Result {
-        let number = self.number();
-        match self {
-            LedgerFault::NoSuchHead(_) => write!(f, "{number}: there is no such head"),
-            LedgerFault::BadAmount(_) => write!(f, "{number}: the amount is not 1 to 255,000,000"),
-            LedgerFault::AlreadyPromised(_) => write!(f, "{number}: an amount is promised already"),
-            LedgerFault::NoPlace(_, depth) => write!(
-                f,
-                "{number}: no place is free, at depth {depth}"
-            ),
-            LedgerFault::NonePromised(_) => write!(f, "{number}: no amount is promised"),
-        }
-    }
-}
-
 // Why fourteen starts are refused.
-#[derive(Clone, Copy, Debug, PartialEq, Eq)]
+#[derive(Clone, Copy, Debug, PartialEq, Eq, Error)]
 pub enum StartFault {
+    #[error("{}: a start is above 4,000", self.number())]
     AboveMost = 26,
 }
 
-impl StartFault {
-    pub fn number(self) -> u8
-        ensures { result ≡ start_fault_number self }
-    {
-        self as u8
-    }
-}
+impl Numbered for StartFault {
+    ghost number_of = { start_fault_number };
 
-impl fmt::Display for StartFault {
-    fn fmt<W: fmt::Write>(&self, f: &mut fmt::Formatter<W>) -> fmt::Result {
-        let number = self.number();
-        match self {
-            StartFault::AboveMost => write!(f, "{number}: a start is above 4,000"),
-        }
+    fn number(&self) -> u8 {
+        *self as u8
     }
 }
 
@@ -93,11 +75,28 @@ impl fmt::Display for StartFault {
 pub fn head_index(head: u8) -> Result<usize, LedgerFault>
     ensures { result ≡ question head head }
 {
-    let index = head as usize;
+    let index = usize::from(head);
     if index >= HEADS {
         return Err(LedgerFault::NoSuchHead(Number));
     }
     Ok(index)
+}
+
+// Why an amount cannot be promised for a head, if it cannot, by what is promised for it already and by the places
+// that are free for it.
+pub fn check_promise(amount: u32, promised: Option<u32>, places: u16) -> Result<(), LedgerFault>
+    ensures { result ≡ promise_check promised places 0 amount }
+{
+    if !(1..=MOST_AMOUNT).contains(&amount) {
+        return Err(LedgerFault::BadAmount(Number));
+    }
+    if promised.is_some() {
+        return Err(LedgerFault::AlreadyPromised(Number));
+    }
+    if places == 0 {
+        return Err(LedgerFault::NoPlace(Number, 0));
+    }
+    Ok(())
 }
 
 // Whatever shows this meaning and keeps the bound is a ledger.

@@ -1,25 +1,14 @@
 // The numbers that a table or a limit starts with, one for each head: first checked, then made into a ledger.
-ghost use Rattle.std.specs.Prelude.{◌≡◌, ℕ, ◌≤◌, nat_le, slice_index};
+ghost use Rattle.std.specs.Prelude.{◌≡◌, ℕ, ◌≤◌, slice_index};
 ghost use Rattle.ledger.specs.Held.{most_places};
 ghost use Rattle.ledger.specs.Starts.{all_fit, starts_answer, accepted};
 
 use crate::{HEADS, MOST_PLACES, StartFault};
 
-fn fits(start: u16) -> bool
-    ensures { result ≡ nat_le start most_places }
-{
-    start <= MOST_PLACES
-}
-
 fn all_fit(starts: &[u16; HEADS]) -> bool
     ensures { result ≡ all_fit starts.now }
 {
-    for start in starts {
-        if !fits(*start) {
-            return false;
-        }
-    }
-    true
+    starts.iter().all(|start| *start <= MOST_PLACES)
 }
 
 // Whether fourteen starts are accepted.

@@ -47,9 +47,10 @@ pub fn make_calls<L: Ledger>(ledger: &mut L, calls: &[HeadCall]) -> usize
     ensures refused { RefusedCallsLeaveNoTrace }
     ensures kept { L.Ledger.keeps ledger.old ledger.new }
 {
+    // No chain: its closure would change the ledger that it captures, and nothing is known of the ledger after that.
     let mut accepted = 0;
     for it in calls {
-        if let Ok(()) = make_call(ledger, it.head, it.call) {
+        if make_call(ledger, it.head, it.call).is_ok() {
             accepted += 1;
         }
     }

@@ -1,9 +1,9 @@
 // Calls in order, on a table and through a pile.
-use crate::script::*;
 use layers::limit::Limit;
 use layers::tally::Tally;
 use ledger::table::Table;
 use ledger_calls::{Call, HeadCall, make_calls};
+use ledger_script::asked;
 
 const CALLS: [HeadCall; 8] = [
     HeadCall {
@@ -44,24 +44,8 @@ const CALLS: [HeadCall; 8] = [
 fn calls_come_to_what_was_settled(rt: HostRuntime) {
     let mut table = Table::new([2; 14]);
     assert_eq!(rt; make_calls(&mut table, &CALLS), 5);
-    check_holds(
-        &rt,
-        &table,
-        &[
-            Holds {
-                head: 3,
-                promised: None,
-                credited: 500,
-                places: 1,
-            },
-            Holds {
-                head: 4,
-                promised: Some(7),
-                credited: 0,
-                places: 1,
-            },
-        ],
-    );
+    assert_eq!(rt; asked(&table, 3), (Ok(None), Ok(500), Ok(1)));
+    assert_eq!(rt; asked(&table, 4), (Ok(Some(7)), Ok(0), Ok(1)));
 }
 
 // The limit's one promise for head 3 is spent when the second is asked for, so its give-back is refused as well.
@@ -69,22 +53,6 @@ fn calls_come_to_what_was_settled(rt: HostRuntime) {
 fn calls_through_a_pile_stop_at_its_limit(rt: HostRuntime) {
     let mut pile = Limit::new([1; 14], Tally::new(Table::new([2; 14])));
     assert_eq!(rt; make_calls(&mut pile, &CALLS), 3);
-    check_holds(
-        &rt,
-        &pile,
-        &[
-            Holds {
-                head: 3,
-                promised: None,
-                credited: 500,
-                places: 0,
-            },
-            Holds {
-                head: 4,
-                promised: Some(7),
-                credited: 0,
-                places: 0,
-            },
-        ],
-    );
+    assert_eq!(rt; asked(&pile, 3), (Ok(None), Ok(500), Ok(0)));
+    assert_eq!(rt; asked(&pile, 4), (Ok(Some(7)), Ok(0), Ok(0)));
 }

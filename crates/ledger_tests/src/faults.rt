@@ -1,7 +1,7 @@
 // Each fault tells its own number, and prints it with a sentence.
-use crate::script::*;
 use ledger::{LedgerFault, StartFault};
-use number::Number;
+use ledger_script::{ALREADY_PROMISED, BAD_AMOUNT, NO_SUCH_HEAD, NONE_PROMISED};
+use number::{Number, Numbered};
 use std::test::Fail;
 
 #[test]

@@ -10,8 +10,6 @@ mod limits;
 #[cfg(test)]
 mod piles;
 #[cfg(test)]
-mod script;
-#[cfg(test)]
 mod tables;
 #[cfg(test)]
 mod tallies;

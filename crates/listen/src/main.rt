@@ -28,6 +28,8 @@ fn main(rt: HostRuntime) -> io::Result<()> {
     }
     let heap = rt.alloc();
     let mut input = BufReader::new(heap, rt.stdin())?;
+    // One buffer serves every line; `split` would make one for each. The loop is written as a count, which no input
+    // reaches: a loop with no end is for programs that may wait.
     let mut line = Vec::new(heap);
     for _ in 0..u64::MAX {
         line.clear();

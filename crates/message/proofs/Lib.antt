@@ -1,2 +1,3 @@
+pub mod FirstMapped
 pub mod Smallest
 pub mod Scan

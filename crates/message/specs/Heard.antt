@@ -4,11 +4,13 @@
 --   hear_answer bs        the same, computed
 --   EarliestSync bs at    the first FCH of the bytes is at a place, or there is none and the place is 0
 --   fault_place bs        the same, computed
+--   IsFirstHeard bs r     r is the message found at the smallest place where one is
+--   heard_at at r         what is heard at a place whose bytes read as r
 --   told_heard r          what `hear` answered, with the data that it borrows as a list
 --   found_by h            the same of a message that was heard
 --
 -- Assumes nothing.
-use Rattle.std.specs.Prelude.{◌≡◌, ℕ, suc, ◌<◌, cond, ◌⊎◌, List, [], ◌∷◌, length, Some, None, Ok, Err, Option, Result, ◌==◌, slice_index}
+use Rattle.std.specs.Prelude.{◌≡◌, ℕ, suc, ◌<◌, ◌⊎◌, List, [], ◌∷◌, length, Some, None, Ok, Err, Option, Result, MatchOption, ◌==◌, drop, position, slice_index}
 use Rattle.std.specs.Option.{option_or, unwrap_or}
 use Rattle.frame.specs.Frames.{Content, StandsAt, front_answer, read_answer}
 use Rattle.frame.specs.declared.fault.FrameFault.{FrameFault}
@@ -59,11 +61,14 @@ found_from i (Err e) = None
 abbrev pub frame_here : ℕ → List ℕ → Option Found
 frame_here i bs = found_from i (front_answer bs)
 
-abbrev pub sync_here : ℕ → List ℕ → Option ℕ
-sync_here i bs = cond (slice_index bs 0 == 0xfc) (Some i) None
+-- What is found is the frame at the smallest place where one is found; nothing, where none is.
+abbrev pub IsFirstHeard : List ℕ → Option Found → Type 0
+IsFirstHeard bs r =
+    MatchOption r ((p : ℕ) → p < length bs → frame_here p (drop p bs) ≡ None)
+    (λ f. (at : ℕ) × (at < length bs) × (frame_here at (drop at bs) ≡ Some f) × ((p : ℕ) → p < at → frame_here p (drop p bs) ≡ None))
 
 abbrev pub fault_place : List ℕ → ℕ
-fault_place bs = unwrap_or (smallest sync_here 0 bs) 0
+fault_place bs = unwrap_or (position (λ b. b == 0xfc) bs) 0
 
 abbrev pub fault_in : Result Content FrameFault → FrameFault
 fault_in (Ok m) = TooShort
@@ -75,6 +80,10 @@ found_or None n = Err n
 
 abbrev pub hear_answer : List ℕ → Result Found NothingHeard
 hear_answer bs = found_or (smallest frame_here 0 bs) (nothing (fault_place bs) (fault_in (read_answer bs (fault_place bs))))
+
+abbrev pub heard_at : ℕ → Result Content FrameFault → Result Found NothingHeard
+heard_at at (Ok m) = Ok (found at m)
+heard_at at (Err e) = Err (nothing at e)
 
 abbrev pub found_by : Heard → Found
 found_by h = record { place = h.place; kind = message_kind h.message; says = message_content h.message }

@@ -3,12 +3,14 @@
 --   kind_of command      which kind a command byte has
 --   message_kind m       the kind that a message is given as
 --   message_content m    its command byte and its data, borrowed from the received bytes
+--   Carries f m          m is the message that a frame carries: of the kind of its command byte, with what it says
 --
 -- Assumes nothing.
-use Rattle.std.specs.Prelude.{ℕ, cond, ◌==◌}
+use Rattle.std.specs.Prelude.{◌≡◌, ℕ, cond, ◌==◌}
 use Rattle.number.specs.Shown.{shown}
 use Rattle.codes.specs.Codes.{is_status, is_setting, status_code, setting_code}
-use Rattle.frame.specs.Frames.{Content, content}
+use Rattle.frame.specs.Frames.{Content, content, content_of}
+use Rattle.frame.specs.declared.Frame.{Frame}
 use Rattle.message.specs.declared.kind.Message.{Message}
 use Rattle.message.specs.declared.kind.Message.TheVariants.{Status, Acknowledgement, Setting, Other}
 
@@ -32,3 +34,6 @@ message_content (Status code part) = content (status_code code) part.now
 message_content (Acknowledgement number part) = content (shown number) part.now
 message_content (Setting code part) = content (setting_code code) part.now
 message_content (Other command part) = content command part.now
+
+abbrev pub Carries : Frame → Message → Type 0
+Carries f m = (message_kind m ≡ kind_of f.command) × (message_content m ≡ content_of f)

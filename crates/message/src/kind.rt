@@ -1,14 +1,13 @@
 // A message by its kind.
 ghost use Rattle.std.specs.Prelude.{◌≡◌};
-ghost use Rattle.frame.specs.Frames.{content_of};
-ghost use Rattle.message.specs.Kinds.{kind_of, message_kind, message_content};
+ghost use Rattle.message.specs.Kinds.{Carries, message_content};
 
 use codes::{SettingCode, StatusCode};
 use frame::Frame;
 use number::Number;
 
 // Each kind with its code, and with its data as a part of the received bytes.
-#[derive(Clone, Copy)]
+#[derive(Clone, Copy, Debug, PartialEq, Eq)]
 pub enum Message<'a> {
     Status(StatusCode, &'a [u8]),
     Acknowledgement(Number<0x50>, &'a [u8]),
@@ -21,9 +20,9 @@ impl<'a> Message<'a> {
         ensures { result ≡ (message_content self.entry).command }
     {
         match self {
-            Message::Status(code, _) => code.byte(),
+            Message::Status(code, _) => code.into(),
             Message::Acknowledgement(number, _) => number.value(),
-            Message::Setting(code, _) => code.byte(),
+            Message::Setting(code, _) => code.into(),
             Message::Other(command, _) => command,
         }
     }
@@ -32,27 +31,27 @@ impl<'a> Message<'a> {
         ensures { result.now ≡ (message_content self.entry).«data» }
     {
         match self {
-            Message::Status(_, data) => data,
-            Message::Acknowledgement(_, data) => data,
-            Message::Setting(_, data) => data,
-            Message::Other(_, data) => data,
+            Message::Status(_, data)
+            | Message::Acknowledgement(_, data)
+            | Message::Setting(_, data)
+            | Message::Other(_, data) => data,
         }
     }
 }
 
-// The message that a frame carries.
-pub fn sort<'a>(frame: Frame<'a>) -> Message<'a>
-    ensures kind { message_kind result ≡ kind_of frame.entry.command }
-    ensures content { message_content result ≡ content_of frame.entry }
-{
-    if let Some(code) = StatusCode::from_byte(frame.command) {
-        return Message::Status(code, frame.data);
+impl<'a> From<Frame<'a>> for Message<'a> {
+    ghost from_gives = { Carries };
+
+    fn from(frame: Frame<'a>) -> Message<'a> {
+        let Frame { command, data } = frame;
+        if let Ok(code) = StatusCode::try_from(command) {
+            Message::Status(code, data)
+        } else if command == 0x50 {
+            Message::Acknowledgement(Number, data)
+        } else if let Ok(code) = SettingCode::try_from(command) {
+            Message::Setting(code, data)
+        } else {
+            Message::Other(command, data)
+        }
     }
-    if frame.command == 0x50 {
-        return Message::Acknowledgement(Number, frame.data);
-    }
-    if let Some(code) = SettingCode::from_byte(frame.command) {
-        return Message::Setting(code, frame.data);
-    }
-    Message::Other(frame.command, frame.data)
 }

@@ -5,4 +5,4 @@ mod heard;
 mod kind;
 
 pub use heard::{Heard, NothingHeard, hear};
-pub use kind::{Message, sort};
+pub use kind::Message;

@@ -1,5 +1,7 @@
 -- What a changed place, an lowered table and a served head do to counts, limits and slacks. Assumes nothing.
-use Rattle.std.proofs.Common.{◌≡◌, ℕ, zero, suc, ◌+◌, ◌-◌, ◌<◌, ◌≤◌, Bool, true, false, leb, [], ◌∷◌, map, length, set, is_some, Some, None, count_by, Option, sym, refl, ap, ◌∙◌, subst, ⊎_elim, arith}
+use Rattle.std.proofs.Common.{◌≡◌, ℕ, zero, suc, ◌+◌, ◌-◌, ◌<◌, ◌≤◌, Bool, true, false, leb, List, [], ◌∷◌, map, length, get_or, set, is_some, Some, None, count_by, Option, sym, refl, ap, ◌∙◌, subst, ⊎_elim, arith}
+use Rattle.std.specs.Option.{option_map}
+use Rattle.std.proofs.Math.ListN.{get_or-map}
 use Rattle.std.proofs.lemmas.Bool.{false≢true, eqb-true, eq-eqb, leb-true, leb-false, le-leb, lt-leb, and_parts, and_from, cases_Bool, cases_eq, cases_lt}
 use Rattle.std.proofs.lemmas.List.{get_or-set_same, get_or-set_other, get_or_past, length-map, set_past}
 use Rattle.std.proofs.lemmas.List.Sums.{sum_by-set, get_or-le-sum_by}
@@ -7,7 +9,7 @@ use Rattle.orders.specs.declared.turn.Turn.{Turn}
 use Rattle.orders.specs.Tables.{Table, turn_of, is_admitted, limit_in, limit_of, slack_in, head_count, is_empty, without_head}
 use Rattle.orders.specs.Orders.{limits_allow, fits_limits}
 use Rattle.orders.specs.Counts.{slack_within, heads_within}
-use Rattle.orders.specs.Slots.{with_slack, lowered, restored, served}
+use Rattle.orders.specs.Slots.{with_slack, lowered_turn, lowered, restored_turn, restored, served}
 use Rattle.orders.proofs.Lists.{one, count_cons, count_no, count_le}
 use Rattle.orders.proofs.Counting.{turn_without, turn_others}
 
@@ -19,12 +21,12 @@ inside t h in' =
 pub count_set : (p : Option Turn → Bool) (t : Table) (h : ℕ) (place : Option Turn) → h < length t → count_by p (set t h place) + one (p (turn_of t h)) ≡ count_by p t + one (p place)
 count_set p t h place lt = sum_by-set (λ e. one (p e)) t h place None lt
 
--- what holds of the new place and of every other holds of every place
-pub at_set : (P : Option Turn → Type 0) (t : Table) (h : ℕ) (place : Option Turn) → h < length t → P place → ((g : ℕ) → (g ≡ h → ⊥) → P (turn_of t g)) → (g : ℕ) → P (turn_of (set t h place) g)
+-- what holds of the new place and of every other, each at its own number, holds of every place
+pub at_set : {X : Type 0} (P : ℕ → Option X → Type 0) (t : List (Option X)) (h : ℕ) (place : Option X) → h < length t → P h place → ((g : ℕ) → (g ≡ h → ⊥) → P g (get_or t g None)) → (g : ℕ) → P g (get_or (set t h place) g None)
 at_set P t h place lt here others g =
     ⊎_elim
-    (λ e. subst (λ n. P (turn_of (set t h place) n)) (sym e) (subst P (sym (get_or-set_same t h place None lt)) here))
-    (λ ne. subst P (sym (get_or-set_other t h g place None ne)) (others g ne))
+    (λ e. subst (λ n. P n (get_or (set t h place) n None)) (sym e) (subst (P h) (sym (get_or-set_same t h place None lt)) here))
+    (λ ne. subst (P g) (sym (get_or-set_other t h g place None ne)) (others g ne))
     (cases_eq g h)
 
 -- ---- one head without_head
@@ -43,9 +45,10 @@ at_without P t h none all g =
     (cases_eq g h)
 
 -- ---- a place with another slack
-pub some_with : (slack : Turn → ℕ) (place : Option Turn) → is_some (with_slack slack place) ≡ is_some place
-some_with slack None = refl
-some_with slack (Some turn) = refl
+-- mapped, what stands at a place still stands there
+pub some_mapped : {X Y : Type 0} (f : X → Y) (place : Option X) → is_some (option_map f place) ≡ is_some place
+some_mapped f None = refl
+some_mapped f (Some x) = refl
 
 pub limit_with : (slack : Turn → ℕ) (place : Option Turn) → limit_in (with_slack slack place) ≡ limit_in place
 limit_with slack None = refl
@@ -70,9 +73,7 @@ count_lowered p q same (place ∷ t) =
     omega (arith, count_cons p (lowered place) (map lowered t), count_cons q place t, ap one (same place), count_lowered p q same t)
 
 pub turn_lowered : (t : Table) (g : ℕ) → turn_of (map lowered t) g ≡ lowered (turn_of t g)
-turn_lowered [] g = refl
-turn_lowered (place ∷ t) zero = refl
-turn_lowered (place ∷ t) (suc g) = turn_lowered t g
+turn_lowered t g = get_or-map lowered t g None
 
 -- ---- a slot for the head itself
 pub slack_restored : (place : Option Turn) → slack_in (restored place) ≡ limit_in place
@@ -89,9 +90,9 @@ module _ (t : Table) (h : ℕ) (lt : h < length t) where
         arith,
         count_set is_some (map lowered t) h (restored (turn_of t h)) here,
         ap (λ e. one (is_some e)) (turn_lowered t h),
-        ap one (some_with (λ turn. turn.slack - 1) (turn_of t h)),
-        ap one (some_with (λ turn. turn.limit.value) (turn_of t h)),
-        count_lowered is_some is_some (some_with (λ turn. turn.slack - 1)) t,
+        ap one (some_mapped lowered_turn (turn_of t h)),
+        ap one (some_mapped restored_turn (turn_of t h)),
+        count_lowered is_some is_some (some_mapped lowered_turn) t,
       )
 
   -- of the others, those within k now were within k + 1 before
@@ -108,7 +109,7 @@ module _ (t : Table) (h : ℕ) (lt : h < length t) where
 
   pub at_served : (P : Option Turn → Type 0) → P (restored (turn_of t h)) → ((g : ℕ) → (g ≡ h → ⊥) → P (lowered (turn_of t g))) → (g : ℕ) → P (turn_of (served t h) g)
   at_served P own others =
-      at_set P (map lowered t) h (restored (turn_of t h)) here own (λ g ne. subst P (sym (turn_lowered t g)) (others g ne))
+      at_set (λ _. P) (map lowered t) h (restored (turn_of t h)) here own (λ g ne. subst P (sym (turn_lowered t g)) (others g ne))
 
 -- ---- small slacks, one head at a time
 within_some : (k : ℕ) (place : Option Turn) → slack_within k place ≡ true → is_some place ≡ true

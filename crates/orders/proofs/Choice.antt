@@ -1,7 +1,7 @@
 -- The computed choice is the one that the words of orders name. Assumes nothing.
-use Rattle.std.proofs.Common.{◌≡◌, ℕ, suc, ◌+◌, ◌<◌, ◌≤◌, Bool, true, false, not, ltb, [], ◌∷◌, length, is_some, Some, None, Decides, Option, sym, refl, ap, ◌∙◌, subst, ⊎_elim, add-zero, zero-add, arith}
+use Rattle.std.proofs.Common.{◌≡◌, ℕ, suc, ◌+◌, ◌<◌, ◌≤◌, true, false, ltb, [], ◌∷◌, length, is_some, Some, None, Decides, Option, sym, refl, ap, ◌∙◌, subst, ⊎_elim, add-zero, zero-add, arith}
 use Rattle.std.specs.Option.{option_map}
-use Rattle.std.proofs.lemmas.Bool.{false≢true, not-true, not-false, ltb-true, ltb-false, lt-leb, cases_Bool, cases_lt, cases_order, cond-true, cond-false}
+use Rattle.std.proofs.lemmas.Bool.{false≢true, ltb-true, ltb-false, lt-leb, cases_Bool, cases_lt, cases_order, cond-true, cond-false}
 use Rattle.std.proofs.lemmas.Bool.Decides.{Decides-and, Decides-like}
 use Rattle.std.proofs.lemmas.List.{get_or_past, length-set}
 use Rattle.std.proofs.lemmas.List.Sums.{count_by-le-length}
@@ -92,17 +92,6 @@ pub smallest_right : (t : Table) → SmallestOf t (smallest_slack t)
 smallest_right t =
     best_all t (0 + length t) (smallest_from None 0 t) (omega arith)
     (best_from t 0 None t (λ j. ap (turn_of t) (zero-add j)) (λ g lt. absurd (omega arith)))
-
-pub is_empty_computed : (t : Table) (r : Bool) → is_some (smallest_slack t) ≡ not r → r ≡ is_empty t
-is_empty_computed t r is = from (smallest_slack t) (smallest_right t) is
-  where
-    from : (found : Option ℕ) → SmallestOf t found → is_some found ≡ not r → r ≡ is_empty t
-    from None none is = not-false r (sym is) ∙ sym none
-    from (Some h) least is =
-        ⊎_elim
-        (λ e. absurd (false≢true (sym (empty_each t e h) ∙ least.admitted)))
-        (λ e. not-true r (sym is) ∙ sym e)
-        (cases_Bool (is_empty t))
 
 smallest_unique : (t : Table) (h g : ℕ) → Smallest t h → Smallest t g → h ≡ g
 smallest_unique t h g first second =

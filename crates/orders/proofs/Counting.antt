@@ -1,7 +1,10 @@
 -- An order within the slacks exists exactly if the counts of small slacks allow it. Assumes nothing.
 use Rattle.std.proofs.Common.{◌≡◌, ℕ, zero, suc, ◌+◌, ◌-◌, ◌*◌, ◌/◌, ◌<◌, ◌≤◌, Bool, true, cond, eqb, leb, List, [], ◌∷◌, length, get_or, is_some, Some, None, Decides, count_by, Option, sym, refl, ap, ◌∙◌, subst, ⊎_elim, add-zero, mul_comm, div-lt_iff_lt-mul, zero-add, div-one, arith}
 use Rattle.std.proofs.lemmas.Bool.{eq-eqb, ne_eqb, leb-true, le-leb, cases_Bool, cases_eq, cases_lt, cond-true, cond-false}
-use Rattle.std.proofs.lemmas.Bool.Decides.{Decides-below_and}
+use Rattle.std.specs.List.{range_with_len}
+use Rattle.std.proofs.lemmas.List.Elements.{All-get_or, All-from_get_or}
+use Rattle.std.proofs.lemmas.List.FromFn.{length-range_with_len, get_or-range_with_len}
+use Rattle.std.proofs.lemmas.List.Sums.{AllPass-from_list_all, list_all-from_AllPass}
 use Rattle.std.proofs.lemmas.List.{get_or-set_same, get_or-set_other, get_or_past, length-set}
 use Rattle.orders.specs.declared.turn.Turn.{Turn}
 use Rattle.orders.specs.Tables.{Table, turn_of, is_admitted, slack_in, slack_of, without_head}
@@ -205,6 +208,28 @@ counts_decide_orders_lem = record {
 -- ---- the computed test of the first n counts
 pub leaves_first_decides : (others : Table) (n : ℕ) → Decides (leaves_first others n) ((k : ℕ) → k < n → heads_within (suc k) others ≤ k)
 unfolding leaves_first
-leaves_first_decides others n =
-    Decides-below_and (λ k. leb (heads_within (suc k) others) k) (λ k. heads_within (suc k) others ≤ k) (leaves_first others)
-    (λ k. (leb-true (heads_within (suc k) others) k, le-leb (heads_within (suc k) others) k)) refl (λ k. refl) n
+leaves_first_decides others n = (
+  λ all k lt.
+      let passes = All-get_or (λ j. few j ≡ true) ks k 0 (omega (arith, length-range_with_len 0 n)) (AllPass-from_list_all few ks all) in
+      few_at k (get_or ks k 0) (get_or-range_with_len 0 n k 0 lt) passes,
+  λ each.
+      list_all-from_AllPass few ks
+      (All-from_get_or (λ j. few j ≡ true) ks 0
+      (λ k lt. let here : k < n = omega (arith, length-range_with_len 0 n) in at_few k (get_or ks k 0) (get_or-range_with_len 0 n k 0 here) (each k here))),
+)
+  where
+    ks : List ℕ
+    ks = range_with_len 0 n
+
+    few : ℕ → Bool
+    few k = leb (heads_within (k + 1) others) k
+
+    few_at : (k j : ℕ) → j ≡ 0 + k → few j ≡ true → heads_within (suc k) others ≤ k
+    few_at k j is passes =
+        let next : j + 1 ≡ suc k = omega arith in
+        omega (arith, leb-true (heads_within (j + 1) others) j passes, ap (λ m. heads_within m others) next)
+
+    at_few : (k j : ℕ) → j ≡ 0 + k → heads_within (suc k) others ≤ k → few j ≡ true
+    at_few k j is le =
+        let next : j + 1 ≡ suc k = omega arith in
+        le-leb (heads_within (j + 1) others) j (omega (arith, ap (λ m. heads_within m others) next))

@@ -3,7 +3,7 @@ use Rattle.std.proofs.Common.{◌≡◌, ℕ, zero, suc, ◌+◌, ◌-◌, ◌<�
 use Rattle.std.specs.List.{AllByRecursion as All}
 use Rattle.std.proofs.lemmas.Bool.{eqb-true, eq-eqb, leb-true, leb-false, le-leb, cases_Bool, cond-true, cond-false}
 use Rattle.std.proofs.ByRecursion.{All-get_or, All-weaker}
-use Rattle.std.proofs.lemmas.List.Sums.{sum_by-cons}
+use Rattle.std.proofs.lemmas.List.Sums.{sum_by-cons, sum_by-le-sum_by}
 use Rattle.orders.specs.Orders.{times}
 
 -- ---- counts
@@ -22,12 +22,11 @@ count_no p x xs e = omega (arith, count_cons p x xs, cond-false {A = ℕ} (p x) 
 
 -- a test that passes more counts more
 pub count_le : {X : Type 0} (p q : X → Bool) → ((x : X) → p x ≡ true → q x ≡ true) → (xs : List X) → count_by p xs ≤ count_by q xs
-count_le p q wider [] = omega arith
-count_le p q wider (x ∷ xs) =
-    ⊎_elim
-    (λ e. omega (arith, count_yes p x xs e, count_yes q x xs (wider x e), count_le p q wider xs))
-    (λ e. omega (arith, count_no p x xs e, count_cons q x xs, count_le p q wider xs))
-    (cases_Bool (p x))
+count_le p q wider xs = sum_by-le-sum_by (λ x. one (p x)) (λ x. one (q x)) xs (λ x. one_le (p x) (q x) (wider x))
+  where
+    one_le : (b c : Bool) → (b ≡ true → c ≡ true) → one b ≤ one c
+    one_le false c wider = omega arith
+    one_le true c wider = rw (wider refl) (omega arith)
 
 -- entries that pass stand at places below n, and places below a are left out
 pub count_early : (p : ℕ → Bool) (n a : ℕ) (o : List ℕ) → ((i : ℕ) → i < length o → p (get_or o i 0) ≡ true → a + i < n) → count_by p o ≤ n - a

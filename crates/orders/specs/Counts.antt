@@ -9,7 +9,8 @@
 --   can_start t h        StartCounts of a table that can exist, as a computed test
 --
 -- Assumes nothing.
-use Rattle.std.specs.Prelude.{◌≡◌, ℕ, zero, suc, ◌≤◌, Bool, true, false, ◌&&◌, ◌↔◌, Some, None, count_by, Option, nat_le}
+use Rattle.std.specs.Prelude.{◌≡◌, ℕ, suc, ◌+◌, ◌≤◌, Bool, true, false, ◌&&◌, ◌↔◌, Some, None, count_by, Option, nat_le}
+use Rattle.std.specs.List.{list_all, range_with_len}
 use Rattle.orders.specs.declared.turn.Turn.{Turn}
 use Rattle.orders.specs.Tables.{Table, is_admitted, slack_of, without_head}
 use Rattle.orders.specs.Orders.{SomeOrder, SomeOrderFrom}
@@ -35,8 +36,7 @@ pub record CountsDecideOrders : Type 0 where
 
 -- ---- the computed test: no count passes 14, so no larger k has to be looked at
 unfoldable pub leaves_first : Table → ℕ → Bool
-leaves_first others zero = true
-leaves_first others (suc k) = nat_le (heads_within (suc k) others) k && leaves_first others k
+leaves_first others n = list_all (λ k. nat_le (heads_within (k + 1) others) k) (range_with_len 0 n)
 
 abbrev pub can_start : Table → ℕ → Bool
 can_start t h = is_admitted t h && leaves_first (without_head t h) 14

@@ -9,7 +9,8 @@
 --   Bounded t           the heads outnumber no limit, no slack is above its limit, and there are 14 places
 --
 -- Every turn table that can exist keeps `SomeOrder` and `Bounded`. Assumes nothing.
-use Rattle.std.specs.Prelude.{◌≡◌, ℕ, suc, ◌<◌, ◌≤◌, Bool, true, cond, ◌&&◌, List, [], ◌∷◌, length, Some, None, count_by, Option, nat_eq, nat_le, slice_index}
+use Rattle.std.specs.Prelude.{◌≡◌, ℕ, suc, ◌<◌, ◌≤◌, Bool, true, cond, List, ◌∷◌, length, Some, None, count_by, Option, nat_eq, nat_le, slice_index}
+use Rattle.std.specs.List.{list_all}
 use Rattle.orders.specs.declared.turn.Turn.{Turn}
 use Rattle.orders.specs.Tables.{Table, is_admitted, limit_of, slack_of, head_count}
 
@@ -35,8 +36,7 @@ limit_allows count None = true
 limit_allows count (Some turn) = nat_le count turn.limit.value
 
 abbrev pub limits_allow : ℕ → Table → Bool
-limits_allow count [] = true
-limits_allow count (place ∷ t) = limit_allows count place && limits_allow count t
+limits_allow count t = list_all (limit_allows count) t
 
 abbrev pub fits_limits : Table → Bool
 fits_limits t = limits_allow (head_count t) t

@@ -3,6 +3,5 @@
 
 pub mod law;
 pub mod limit;
-mod place;
 pub mod places;
 pub mod turn;

@@ -10,11 +10,11 @@ pub struct Limit {
 }
 
 impl Limit {
-    // The limit of this value, or None if the value is not one of 1 to 14.
+    // The limit of this value, or None if the value is not one of 1 to 14, as the `new` of std's numbers that are not 0.
     pub fn new(value: u8) -> Option<Limit>
         ensures { option_map (λ l. l.value) result ≡ checked_limit value }
     {
-        if value < 1 || value > 14 {
+        if !(1..=14).contains(&value) {
             return None;
         }
         Some(Limit { value })

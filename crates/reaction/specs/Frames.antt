@@ -2,7 +2,8 @@
 --
 --   second_frame u r v    the frame that the reply r to a head with the setup u comes to, where v tells whether a bill in
 --                         escrow is returned
---   frame_content f       a second frame as a message, if there is one
+--   frame_message f       a second frame as a message
+--   frame_content f       the same of a second frame, if there is one
 --   sent_setting f        the setting that it is, if it is one
 --   room_answer m room    what writing it into a buffer of a length answers: 7 exactly where it does not fit
 --   buffer_with m was r   the buffer after a write that answered r: the frame, if any, starts it and the rest stays
@@ -25,21 +26,24 @@ use Rattle.reaction.specs.declared.second.SecondFrame.{SecondFrame}
 use Rattle.reaction.specs.declared.second.SecondFrame.TheVariants as second
 use Rattle.reaction.specs.declared.setup.Setup.{Setup}
 
-abbrev pub frame_content : SecondFrame → Option Content
-frame_content second.Nothing = None
-frame_content (second.Setting s) = Some (setting_content s)
-frame_content (second.Stack n) = Some (content (shown n) [])
-frame_content (second.Return n) = Some (content (shown n) [])
-frame_content (second.Reset n) = Some (content (shown n) [])
-frame_content (second.Acknowledge n) = Some (content (shown n) [])
+abbrev pub frame_message : SecondFrame → Content
+frame_message (second.Setting s) = setting_content s
+frame_message (second.Stack n) = content (shown n) []
+frame_message (second.Return n) = content (shown n) []
+frame_message (second.Reset n) = content (shown n) []
+frame_message (second.Acknowledge n) = content (shown n) []
 
-abbrev pub sent_setting : SecondFrame → Option Content
-sent_setting second.Nothing = None
-sent_setting (second.Setting s) = Some (setting_content s)
-sent_setting (second.Stack n) = None
-sent_setting (second.Return n) = None
-sent_setting (second.Reset n) = None
-sent_setting (second.Acknowledge n) = None
+abbrev pub frame_content : Option SecondFrame → Option Content
+frame_content None = None
+frame_content (Some f) = Some (frame_message f)
+
+abbrev pub sent_setting : Option SecondFrame → Option Content
+sent_setting None = None
+sent_setting (Some (second.Setting s)) = Some (setting_content s)
+sent_setting (Some (second.Stack n)) = None
+sent_setting (Some (second.Return n)) = None
+sent_setting (Some (second.Reset n)) = None
+sent_setting (Some (second.Acknowledge n)) = None
 
 -- STACK-1 where the bill in escrow is promised, else RETURN
 abbrev pub stack_or_return : Result (Unit {0}) HeadFault → Content

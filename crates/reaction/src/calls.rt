@@ -8,7 +8,7 @@ use ledger::{Ledger, LedgerFault};
 use ledger_calls::{Call, make_call};
 
 // At most two calls, in this order: the end of a promise that stands, and the promise of a bill in escrow.
-#[derive(Clone, Copy)]
+#[derive(Clone, Copy, Debug, PartialEq, Eq)]
 pub struct Calls {
     pub ending: Option<Call>,
     pub promise: Option<u32>,
@@ -26,14 +26,10 @@ impl Calls {
     fn first(self, count: usize) -> Calls
         ensures { listed result ≡ take count (listed self) }
     {
-        let mut first = self;
-        if count < self.count() {
-            first.promise = None;
-            if count == 0 {
-                first.ending = None;
-            }
+        Calls {
+            ending: self.ending.filter(|_| count > 0),
+            promise: self.promise.filter(|_| count >= self.count()),
         }
-        first
     }
 }
 
@@ -51,13 +47,14 @@ impl Reaction {
             },
         }
     }
-}
 
-// The calls of a report for a head, with what is promised for it now: nothing where there is no such head.
-fn calls_now<L: Ledger>(ledger: &L, head: u8, reaction: &Reaction) -> Calls
-    ensures { result ≡ parts_of reaction.now (L.Ledger.held ledger.now head).promised }
-{
-    reaction.calls(ledger.promised(head).unwrap_or(None))
+    // The calls of a report for a head, with what is promised for it now: nothing where there is no such head.
+    pub fn calls_now<L: Ledger>(&self, ledger: &L, head: u8) -> Calls
+        ensures list { listed result ≡ calls_of self.now (L.Ledger.held ledger.now head).promised }
+        ensures parts { result ≡ parts_of self.now (L.Ledger.held ledger.now head).promised }
+    {
+        self.calls(ledger.promised(head).unwrap_or(None))
+    }
 }
 
 // Makes the calls in order, one at a time, and answers what the promise among them was answered.
@@ -69,6 +66,7 @@ fn make_all<L: Ledger>(ledger: &mut L, head: u8, calls: Calls) -> Result<(), Led
     if let Some(ending) = calls.ending {
         let _ = make_call(ledger, head, ending);
     }
+    // No `map_or`: of a ledger that a closure changes nothing would be known afterwards.
     match calls.promise {
         Some(value) => make_call(ledger, head, Call::Promise(value)),
         None => Ok(()),
@@ -81,7 +79,7 @@ pub fn perform<L: Ledger>(ledger: &mut L, head: u8, reaction: &Reaction) -> Resu
     ensures after { L.Ledger.held ledger.new ≡ called_all (L.Ledger.held ledger.old) head (calls_of reaction.now (L.Ledger.held ledger.old head).promised) }
     ensures kept { L.Ledger.keeps ledger.old ledger.new }
 {
-    let calls = calls_now(ledger, head, reaction);
+    let calls = reaction.calls_now(ledger, head);
     make_all(ledger, head, calls)?;
     match reaction.reply {
         Reply::Return(cause) => Err(cause),
@@ -95,7 +93,7 @@ pub fn perform_some<L: Ledger>(ledger: &mut L, head: u8, reaction: &Reaction, co
     ensures after { L.Ledger.held ledger.new ≡ called_all (L.Ledger.held ledger.old) head (take count (calls_of reaction.now (L.Ledger.held ledger.old head).promised)) }
     ensures kept { L.Ledger.keeps ledger.old ledger.new }
 {
-    let calls = calls_now(ledger, head, reaction).first(count);
+    let calls = reaction.calls_now(ledger, head).first(count);
     let _ = make_all(ledger, head, calls);
     calls.count()
 }

@@ -6,8 +6,9 @@ use crate::fault::HeadFault;
 use ledger_calls::Call;
 
 // What a status is answered with.
-#[derive(Clone, Copy)]
+#[derive(Clone, Copy, Debug, PartialEq, Eq)]
 pub enum Reply {
+    // A row of the table like the others: in an Option beside them it would have as many arms.
     Nothing,
     // The first unconfirmed setting, if any.
     NextSetting,
@@ -20,7 +21,7 @@ pub enum Reply {
     Reset,
 }
 
-#[derive(Clone, Copy)]
+#[derive(Clone, Copy, Debug, PartialEq, Eq)]
 pub struct Reaction {
     // What a promise that stands comes to.
     pub ending: Option<Call>,

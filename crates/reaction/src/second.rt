@@ -1,6 +1,6 @@
 // The second frame of a slot.
-ghost use Rattle.std.specs.Prelude.{◌≡◌, length};
-ghost use Rattle.reaction.specs.Frames.{SevenSuffice, buffer_with, frame_content, room_answer, second_frame, sent_setting, setting_sent};
+ghost use Rattle.std.specs.Prelude.{◌≡◌, ◌≤◌, length};
+ghost use Rattle.reaction.specs.Frames.{SevenSuffice, buffer_with, frame_content, frame_message, room_answer, second_frame, sent_setting, setting_sent};
 
 use crate::fault::HeadFault;
 use crate::reaction::Reply;
@@ -10,9 +10,8 @@ use number::Number;
 use sheet::Setting;
 
 // What the hub sends after it has heard a head, each command with its byte.
-#[derive(Clone, Copy)]
+#[derive(Clone, Copy, Debug, PartialEq, Eq)]
 pub enum SecondFrame {
-    Nothing,
     Setting(Setting),
     // STACK-1
     Stack(Number<0x41>),
@@ -22,45 +21,55 @@ pub enum SecondFrame {
 }
 
 impl Reply {
-    // The frame that the reply comes to, where the verdict tells why a bill in escrow is returned, if it is.
-    pub fn second_frame(&self, setup: &Setup, verdict: Result<(), HeadFault>) -> SecondFrame
+    // The frame that the reply comes to, if any, where the verdict tells why a bill in escrow is returned, if it is.
+    pub fn second_frame(&self, setup: &Setup, verdict: Result<(), HeadFault>) -> Option<SecondFrame>
         ensures frame { frame_content result ≡ second_frame setup.now self.now verdict }
         ensures setting { sent_setting result ≡ setting_sent setup.now self.now }
     {
         match (self, verdict) {
-            (Reply::Nothing, _) => SecondFrame::Nothing,
-            (Reply::NextSetting, _) => match setup.next_setting() {
-                Some(setting) => SecondFrame::Setting(setting),
-                None => SecondFrame::Nothing,
-            },
-            (Reply::Stack(_), Ok(())) => SecondFrame::Stack(Number),
-            (Reply::Stack(_), Err(_)) => SecondFrame::Return(Number),
-            (Reply::Return(_), _) => SecondFrame::Return(Number),
-            (Reply::Acknowledge, _) => SecondFrame::Acknowledge(Number),
-            (Reply::Reset, _) => SecondFrame::Reset(Number),
+            (Reply::Nothing, _) => None,
+            (Reply::NextSetting, _) => setup.next_setting().map(SecondFrame::Setting),
+            (Reply::Stack(_), Ok(())) => Some(SecondFrame::Stack(Number)),
+            (Reply::Stack(_), Err(_)) => Some(SecondFrame::Return(Number)),
+            (Reply::Return(_), _) => Some(SecondFrame::Return(Number)),
+            (Reply::Acknowledge, _) => Some(SecondFrame::Acknowledge(Number)),
+            (Reply::Reset, _) => Some(SecondFrame::Reset(Number)),
         }
     }
 }
 
 impl SecondFrame {
-    // Writes the frame, if there is one, to the start of the buffer, whose rest stays, and tells its length, 0 for none.
-    // It is refused where the frame does not fit; seven bytes are enough for any.
-    pub fn write(&self, buffer: &mut [u8]) -> Result<usize, WriteFault>
-        ensures answer { result ≡ room_answer (frame_content self.now) (length buffer.old) }
-        ensures after { buffer.new ≡ buffer_with (frame_content self.now) buffer.old result }
-        ensures seven { SevenSuffice (frame_content self.now) buffer.old result buffer.new }
+    // An arm for each case, since each code is a type of its own.
+    fn command(&self) -> u8
+        ensures { result ≡ (frame_message self.now).command }
     {
         match self {
-            SecondFrame::Nothing => Ok(0),
-            SecondFrame::Setting(setting) => frame::write(
-                setting.command(),
-                setting.data(),
-                buffer,
-            ),
-            SecondFrame::Stack(code) => frame::write(code.value(), &[], buffer),
-            SecondFrame::Return(code) => frame::write(code.value(), &[], buffer),
-            SecondFrame::Reset(code) => frame::write(code.value(), &[], buffer),
-            SecondFrame::Acknowledge(code) => frame::write(code.value(), &[], buffer),
+            SecondFrame::Setting(setting) => setting.command(),
+            SecondFrame::Stack(code) => code.value(),
+            SecondFrame::Return(code) => code.value(),
+            SecondFrame::Reset(code) => code.value(),
+            SecondFrame::Acknowledge(code) => code.value(),
         }
+    }
+
+    // Only a setting has any.
+    fn data(&self) -> &[u8]
+        ensures bytes { result.now ≡ (frame_message self.now).«data» }
+        ensures few { length result.now ≤ 2 }
+    {
+        match self {
+            SecondFrame::Setting(setting) => setting.data(),
+            _ => &[],
+        }
+    }
+
+    // Writes the frame to the start of the caller's buffer, since there is no heap; its rest stays. Tells the frame's
+    // length. It is refused where the frame does not fit; seven bytes are enough for any.
+    pub fn write(&self, buffer: &mut [u8]) -> Result<usize, WriteFault>
+        ensures answer { result ≡ room_answer (Some (frame_message self.now)) (length buffer.old) }
+        ensures after { buffer.new ≡ buffer_with (Some (frame_message self.now)) buffer.old result }
+        ensures seven { SevenSuffice (Some (frame_message self.now)) buffer.old result buffer.new }
+    {
+        frame::write(self.command(), self.data(), buffer)
     }
 }

@@ -3,13 +3,13 @@ ghost use Rattle.std.specs.Prelude.{◌≡◌};
 ghost use Rattle.std.specs.Option.{option_map};
 ghost use Rattle.message.specs.Kinds.{message_content};
 ghost use Rattle.sheet.specs.Settings.{setting_content};
-ghost use Rattle.reaction.specs.Setups.{OnlyTheExactEchoConfirms, fresh_setup, next_setting, same_content, setting_if, setup_hearing};
+ghost use Rattle.reaction.specs.Setups.{OnlyTheExactEchoConfirms, fresh_setup, next_setting, same_content, setup_hearing};
 
 use message::Message;
 use sheet::{Setting, Sheet};
 
 // A head's sheet, and how many of its settings the head has confirmed, in their order.
-#[derive(Clone, Copy)]
+#[derive(Clone, Copy, Debug, PartialEq, Eq)]
 pub struct Setup {
     pub sheet: Sheet,
     pub confirmed: usize,
@@ -18,7 +18,7 @@ pub struct Setup {
 fn is_echo<'a>(setting: &Setting, message: Message<'a>) -> bool
     ensures { result ≡ same_content (setting_content setting.now) (message_content message.entry) }
 {
-    setting.command() == message.command() && setting.data() == message.data()
+    (setting.command(), setting.data()) == (message.command(), message.data())
 }
 
 impl Setup {
@@ -39,18 +39,16 @@ impl Setup {
         self.sheet.setting(self.confirmed)
     }
 
-    // Takes what was heard after the second frame, where `sent` tells whether that was the first unconfirmed setting. Only
-    // its exact echo confirms it.
-    pub fn hear<'a>(&mut self, sent: bool, heard: Option<Message<'a>>)
-        ensures { self.new ≡ setup_hearing (setting_if sent self.old) (option_map message_content heard.entry) self.old }
+    // Takes what was heard after the first unconfirmed setting was sent. Only its exact echo confirms it.
+    pub fn hear<'a>(&mut self, heard: Option<Message<'a>>)
+        ensures { self.new ≡ setup_hearing (next_setting self.old) (option_map message_content heard.entry) self.old }
     {
-        if !sent {
-            return;
-        }
-        if let (Some(setting), Some(message)) = (self.next_setting(), heard) {
-            if is_echo(&setting, message) {
-                self.confirmed += 1;
-            }
+        let echoed = self
+            .next_setting()
+            .zip(heard)
+            .is_some_and(|(setting, message)| is_echo(&setting, message));
+        if echoed {
+            self.confirmed += 1;
         }
     }
 }

@@ -1,13 +1,13 @@
 -- Every step keeps what a run keeps of the hub, so the law of turns stands at every moment of every run. Assumes nothing.
-use Rattle.std.proofs.Common.{◌≡◌, ℕ, zero, suc, ◌-◌, ◌<◌, ◌≤◌, Bool, true, false, cond, eqb, ltb, List, [], ◌∷◌, ◌++◌, map, length, get_or, set, replicate, is_some, is_ok, Some, None, Ok, Err, Option, Result, sym, refl, ap, ◌∙◌, subst, ⊎_elim, arith}
+use Rattle.std.proofs.Common.{◌≡◌, ℕ, ◌<◌, ◌≤◌, Bool, true, false, cond, eqb, ltb, List, [], ◌∷◌, ◌++◌, map, length, set, is_some, is_ok, Some, None, Ok, Err, Option, Result, sym, refl, ap, ◌∙◌, subst, ⊎_elim, arith}
 use Rattle.std.specs.Option.{option_map}
-use Rattle.std.proofs.lemmas.Bool.{false≢true, ltb-false, eq-eqb, ne_eqb, cases_eq, cond-true, cond-false}
-use Rattle.std.proofs.lemmas.List.{get_or-set_same, get_or-set_other, length-set}
+use Rattle.std.proofs.lemmas.Bool.{ltb-false, eq-eqb, ne_eqb, cases_eq, cond-true, cond-false}
+use Rattle.std.proofs.lemmas.List.{get_or-set_other, length-set}
 use Rattle.frame.specs.Frames.{Content}
 use Rattle.orders.specs.Choice.{Chosen, chosen}
-use Rattle.orders.specs.Slots.{lowered, restored, after_slot}
+use Rattle.orders.specs.Slots.{lowered_turn, lowered, restored, after_slot}
 use Rattle.orders.specs.Tables.{Table, turn_of, is_admitted, is_empty, empty_table, without_head}
-use Rattle.orders.proofs.Changes.{inside, turn_lowered, some_with}
+use Rattle.orders.proofs.Changes.{inside, at_set, turn_lowered, some_mapped}
 use Rattle.orders.proofs.Choice.{chosen_right}
 use Rattle.orders.proofs.Counting.{counts_decide_orders_lem, turn_without, turn_others}
 use Rattle.orders.proofs.Keeps.{Keeps}
@@ -16,7 +16,7 @@ use Rattle.turns.specs.Calls as turns
 use Rattle.turns.specs.Runs.{after_call, slot_of}
 use Rattle.turns.specs.declared.fault.AdmissionFault.{AdmissionFault}
 use Rattle.turns.specs.declared.fault.DismissalFault.{DismissalFault}
-use Rattle.turns.proofs.Invariant.{not_in_empty}
+use Rattle.turns.proofs.Invariant.{none_replicated, not_in_empty}
 use Rattle.turns.proofs.Outcomes.{number_accepted, after_admission_lem, after_dismissal_lem}
 use Rattle.sheet.specs.Sheets.{draft_of, right_sheet, sheet_answer, told}
 use Rattle.sheet.specs.declared.fault.SheetFault.{SheetFault}
@@ -29,67 +29,56 @@ use Rattle.reaction.specs.Setups.{setting_if, is_echo, one_more, setup_hearing, 
 use Rattle.reaction.specs.declared.reaction.Reply.{Reply}
 use Rattle.reaction.specs.declared.reaction.Reply.TheVariants as reply
 use Rattle.reaction.specs.declared.setup.Setup.{Setup}
-use Rattle.hub.specs.States.{HubState, new_state, restarted, served_by, is_open, setup_of, first_of, second_of, first_awaited, second_awaited}
+use Rattle.hub.specs.States.{HubState, new_state, restarted, served_by, is_open, setup_of, first_of, second_of}
 use Rattle.hub.specs.Heads.{admission_answer, admitted_by, with_head, unless_turned_down, checked_answer, dismissal_answer, dismissed_by, unless_kept}
 use Rattle.hub.specs.Heads as hub
+use Rattle.hub.specs.Passes.{FirstPass, SecondPass}
+use Rattle.hub.specs.Refusals.{CutRefusal, SecondRefusal}
 use Rattle.hub.specs.Slots.{opened_for, opening_answer, after_opening}
-use Rattle.hub.specs.Reports.{heard_in, status_in, first_reaction, handed_first, first_check, after_first, sent_in, handed_second, second_check, cut_check}
-use Rattle.hub.specs.declared.pass.FirstPass.{FirstPass}
+use Rattle.hub.specs.Reports.{heard_in, status_in, first_reaction, check, first_check, after_first, sent_in}
 use Rattle.hub.specs.declared.pass.Opening.{Opening}
-use Rattle.hub.specs.declared.pass.SecondPass.{SecondPass}
 use Rattle.hub.specs.declared.refusal.AdmissionRefusal.{AdmissionRefusal}
-use Rattle.hub.specs.declared.refusal.CutRefusal.{CutRefusal}
 use Rattle.hub.specs.declared.refusal.DismissalRefusal.{DismissalRefusal}
 use Rattle.hub.specs.declared.refusal.FirstRefusal.{FirstRefusal}
 use Rattle.hub.specs.declared.refusal.OpeningRefusal.{OpeningRefusal}
-use Rattle.hub.specs.declared.refusal.SecondRefusal.{SecondRefusal}
 use Rattle.hub.specs.declared.state.Slot.{Slot}
-use Rattle.hub.specs.declared.state.Slot.TheVariants.{Closed, First, Second}
+use Rattle.hub.specs.declared.state.Slot.TheVariants.{Closed}
 use Rattle.runs.specs.Worlds.{Mark, Memory, World, put, new_world}
 use Rattle.runs.specs.Steps.{Event, Step, admits, dismisses, opens, reports, ends, cuts, restarts, poll_arrives, second_arrives, moves, Run, starts, goes_on, memory_admitting, memory_dismissing, heard_answer, admitted_world, dismissed_world, opened_world, reported_world, ended_world, cut_world, restarted_world}
 use Rattle.runs.specs.Law.{table_after, EveryHeadGetsItsTurn, WishesPassedOverRightly}
+use Rattle.runs.proofs.Basics.{passed}
 use Rattle.runs.proofs.HubInvariant.{Faithful, HubKept}
+use Rattle.runs.proofs.Served.{first_for, second_for}
 use Rattle.runs.proofs.Marks.{table_append, faithful_append, marks_keep, rounds_kept, wishes_kept}
 
 -- WHAT AN ACCEPTED CALL TELLS
 
-none≢some : {A : Type 0} {x : A} → None ≡ Some x → ⊥
-none≢some e = false≢true (ap is_some e)
-
-unless_refused : {A E : Type 0} (b : Bool) (e : E) (r : Result A E) (x : A) → cond b (Err e) r ≡ Ok x → (b ≡ false) × (r ≡ Ok x)
-unless_refused true e r x is = absurd (false≢true (ap is_ok is))
-unless_refused false e r x is = (refl, is)
-
-some_if : {A : Type 0} (b : Bool) (o : Option A) (x : A) → cond b o None ≡ Some x → o ≡ Some x
-some_if true o x is = is
-some_if false o x is = absurd (none≢some is)
-
 -- an admission: the number is a head's, and the sheet is the one that was checked
 admitted_number : (s : HubState) (n : ℕ) (sheet : Sheet) (done : Unit {0}) → admission_answer s n (Ok sheet) ≡ Ok done → n ≤ 13
 admitted_number s n sheet done is =
-    (number_accepted s.table n (in_turn (number_answer s.table n) (unless_refused (is_open s.slot) _ _ done is).1)).0
+    (number_accepted s.table n (in_turn (number_answer s.table n) (passed (is_open s.slot) _ _ done is).1)).0
   where
     in_turn : (r : Result (Unit {0}) AdmissionFault) → unless_turned_down r (checked_answer s n (Ok sheet)) ≡ Ok done → is_ok r ≡ true
     in_turn (Ok _) is = refl
-    in_turn (Err e) is = absurd (false≢true (ap is_ok is))
+    in_turn (Err e) is = cc
 
 sheet_told : (b : Bool) (d e : Draft) → Ok e ≡ cond b (Ok d) (Err SheetWrong) → e ≡ d
 sheet_told true d e is = cc
-sheet_told false d e is = absurd (false≢true (sym (ap is_ok is)))
+sheet_told false d e is = cc
 
 -- a dismissal: no slot is open, the number is a head's, and the head is admitted no more
 dismissed_idle : (s : HubState) (n : ℕ) (done : Unit {0}) → dismissal_answer s n ≡ Ok done → is_open s.slot ≡ false
-dismissed_idle s n done is = (unless_refused (is_open s.slot) _ _ done is).0
+dismissed_idle s n done is = (passed (is_open s.slot) _ _ done is).0
 
 dismissed_turn : (s : HubState) (n : ℕ) (done : Unit {0}) → dismissal_answer s n ≡ Ok done → turns.dismissal_answer s.table n ≡ Ok tt
-dismissed_turn s n done is = in_turn (turns.dismissal_answer s.table n) (unless_refused (is_open s.slot) _ _ done is).1
+dismissed_turn s n done is = in_turn (turns.dismissal_answer s.table n) (passed (is_open s.slot) _ _ done is).1
   where
     in_turn : (r : Result (Unit {0}) DismissalFault) → unless_kept r ≡ Ok done → r ≡ Ok tt
     in_turn (Ok _) is = refl
-    in_turn (Err e) is = absurd (false≢true (ap is_ok is))
+    in_turn (Err e) is = cc
 
 dismissed_number : (t : Table) (n : ℕ) → turns.dismissal_answer t n ≡ Ok tt → n ≤ 13
-dismissed_number t n is = ltb-false 13 n (unless_refused (ltb 13 n) _ _ tt is).0
+dismissed_number t n is = ltb-false 13 n (passed (ltb 13 n) _ _ tt is).0
 
 dismissed_gone : (t : Table) (n : ℕ) → turns.dismissal_answer t n ≡ Ok tt → is_admitted (turns.after_dismissal t n) n ≡ false
 dismissed_gone t n is = ap (λ r. is_admitted (if_accepted r (without_head t n) t) n) is ∙ ap is_some (turn_without t n)
@@ -101,45 +90,14 @@ head_in (Err e) = None
 
 opened_chosen : (s : HubState) (wish room : ℕ) (o : Opening) → opening_answer s wish room ≡ Ok o → chosen s.table wish ≡ Some o.head
 opened_chosen s wish room o is =
-    let idle = (unless_refused (is_open s.slot) _ _ o is).1 in
-    let some = (unless_refused (is_empty s.table) _ _ o idle).1 in
-    let fits = (unless_refused (ltb room 5) _ _ o some).1 in
+    let idle = (passed (is_open s.slot) _ _ o is).1 in
+    let some = (passed (is_empty s.table) _ _ o idle).1 in
+    let fits = (passed (ltb room 5) _ _ o some).1 in
     found (chosen s.table wish) fits
   where
     found : (choice : Option ℕ) → opened_for s choice ≡ Ok o → choice ≡ Some o.head
     found (Some h) is = ap head_in is
-    found None is = absurd (false≢true (ap is_ok is))
-
--- a report: it is of the head served
-first_of_served : (slot : Slot) (h : ℕ) → first_of slot ≡ Some h → served_by slot ≡ Some h
-first_of_served Closed h is = is
-first_of_served (First g) h is = is
-first_of_served (Second g sent) h is = absurd (none≢some is)
-
-second_of_served : (slot : Slot) (h : ℕ) → second_of slot ≡ Some h → served_by slot ≡ Some h
-second_of_served Closed h is = is
-second_of_served (First g) h is = absurd (none≢some is)
-second_of_served (Second g sent) h is = is
-
-first_awaited_lem : (s : HubState) (n h : ℕ) → first_awaited s n ≡ Some h → served_by s.slot ≡ Some h
-first_awaited_lem s n h is = first_of_served s.slot h (some_if (eqb n s.count) _ h is)
-
-pub first_served : (s : HubState) (p : FirstPass) (n room h : ℕ) → first_check s p n room ≡ Ok h → served_by s.slot ≡ Some h
-first_served s p n room h is = first_awaited_lem s p.count h (handed (first_awaited s p.count) is)
-  where
-    handed : (o : Option ℕ) → handed_first o p n room ≡ Ok h → o ≡ Some h
-    handed None is = absurd (false≢true (ap is_ok is))
-    handed (Some g) is =
-        let taken = (unless_refused (ltb room 7) _ _ h (unless_refused (ltb 512 n) _ _ h is).1).1 in
-        cc
-
-pub second_served : (s : HubState) (p : SecondPass) (n h : ℕ) → second_check s p n ≡ Ok h → served_by s.slot ≡ Some h
-second_served s p n h is =
-    second_of_served s.slot h (some_if (eqb p.count s.count) _ h (handed (second_awaited s p.count) is))
-  where
-    handed : (o : Option ℕ) → handed_second o p n ≡ Ok h → o ≡ Some h
-    handed None is = absurd (false≢true (ap is_ok is))
-    handed (Some g) is = let taken = (unless_refused (ltb 512 n) _ _ h is).1 in cc
+    found None is = cc
 
 -- THE PARTS OF WHAT IS KEPT
 
@@ -184,28 +142,15 @@ table_keeps t ms kept = subst Keeps (sym kept.table) (marks_keep ms kept.faithfu
 
 -- NO HEAD
 
-no_setup : (n h : ℕ) → get_or {A = Option Setup} (replicate n None) h None ≡ None
-no_setup zero h = refl
-no_setup (suc n) zero = refl
-no_setup (suc n) (suc h) = no_setup n h
-
 none_kept : (s : HubState) (sheets : ℕ → Option Draft) → HeadsKept (restarted s) sheets
 none_kept s sheets = record {
   places = refl;
-  admitted = λ h in'. absurd (false≢true (sym (not_in_empty h) ∙ in'));
-  served = λ h is. absurd (none≢some is);
-  known = λ h u is. absurd (none≢some (sym (no_setup 14 h) ∙ is));
+  admitted = λ h in'. cc (sym (not_in_empty h) ∙ in');
+  served = λ h is. cc;
+  known = λ h u is. cc (sym (none_replicated 14 h) ∙ is);
 }
 
 -- ONE HEAD
-
--- what holds of the new setup at its place, and of every other at its own, holds of every one
-at_set : (P : ℕ → Option Setup → Type 0) (us : List (Option Setup)) (n : ℕ) (u : Option Setup) → n < length us → P n u → ((h : ℕ) → (h ≡ n → ⊥) → P h (get_or us h None)) → (h : ℕ) → P h (get_or (set us n u) h None)
-at_set P us n u lt here others h =
-    ⊎_elim
-    (λ e. subst (λ k. P k (get_or (set us n u) k None)) (sym e) (subst (P n) (sym (get_or-set_same us n u None lt)) here))
-    (λ ne. subst (P h) (sym (get_or-set_other us n h u None ne)) (others h ne))
-    (cases_eq h n)
 
 admitted_kept : (s : HubState) (sheets : ℕ → Option Draft) (n : ℕ) (sheet : Sheet) (d : Draft) → HeadsKept s sheets → n ≤ 13 → draft_of sheet ≡ d → HeadsKept (with_head s n sheet) (put n (Some d) sheets)
 admitted_kept s sheets n sheet d kept low same =
@@ -238,9 +183,9 @@ dismissed_kept s sheets n kept idle gone =
       admitted = at_set (λ h u. is_admitted (turns.after_dismissal s.table n) h ≡ true → is_some u ≡ true) s.setups n None lt
           (λ in'. sym (dismissed_gone s.table n gone) ∙ in')
           (λ h ne in'. kept.admitted h (admitted_before h ne in'));
-      served = λ h is. absurd (false≢true (sym idle ∙ ap is_some is));
+      served = λ h is. cc (sym idle ∙ ap is_some is);
       known = at_set (λ h u. (v : Setup) → u ≡ Some v → sheets h ≡ Some (draft_of v.sheet)) s.setups n None lt
-          (λ v is. absurd (none≢some is))
+          (λ v is. cc)
           (λ h ne. kept.known h);
     }
   where
@@ -262,7 +207,7 @@ admitted_before_slot t g h own in' =
     ⊎_elim
     (λ e. subst (λ k. is_admitted t k ≡ true) (sym e) own)
     (λ ne.
-    sym (some_with (λ turn. turn.slack - 1) (turn_of t h))
+    sym (some_mapped lowered_turn (turn_of t h))
     ∙ sym (ap is_some (get_or-set_other (map lowered t) g h (restored (turn_of t g)) None ne ∙ turn_lowered t h))
     ∙ in')
     (cases_eq h g)
@@ -282,13 +227,9 @@ opened_kept s sheets wish o kept keeps is =
 
 -- REPORTS
 
-some_mapped : (f : Setup → Setup) (o : Option Setup) → is_some (option_map f o) ≡ is_some o
-some_mapped f None = refl
-some_mapped f (Some u) = refl
-
 -- a setup changed but for its sheet
 known_mapped : (f : Setup → Setup) → ((u : Setup) → (f u).sheet ≡ u.sheet) → (sheet : Option Draft) (o : Option Setup) → ((u : Setup) → o ≡ Some u → sheet ≡ Some (draft_of u.sheet)) → (v : Setup) → option_map f o ≡ Some v → sheet ≡ Some (draft_of v.sheet)
-known_mapped f same sheet None known v is = absurd (none≢some is)
+known_mapped f same sheet None known v is = cc
 known_mapped f same sheet (Some u) known v is =
     let own : f u ≡ v = cc in
     known u refl ∙ ap (λ x. Some (draft_of x)) (sym (same u) ∙ ap (λ x. x.sheet) own)
@@ -391,9 +332,9 @@ opening_keeps w wish room (Ok o) is kept =
     (marked_kept w.hub.table w.memory.marks _ (marks_of kept) refl (sym slot))
 opening_keeps w wish room (Err e) is kept = kept
 
-first_keeps : (w : World) (p : FirstPass) (bs : List ℕ) (room : ℕ) (r : Result ℕ FirstRefusal) → first_check w.hub p (length bs) room ≡ r → HubKept w → HubKept (reported_world w bs r)
+first_keeps : (w : World) (p : FirstPass) (bs : List ℕ) (room : ℕ) (r : Result ℕ FirstRefusal) → first_check w.hub p bs room ≡ r → HubKept w → HubKept (reported_world w bs r)
 first_keeps w p bs room (Ok h) is kept =
-    let own = first_served w.hub p (length bs) room h is in
+    let own = first_for w.hub p bs room h is in
     let reaction = first_reaction w.hub h bs in
     both_kept
     (subst (HeadsKept (after_first w.hub (Ok h) bs)) (sym (heard_sheets _ h (status_in bs)))
@@ -403,13 +344,13 @@ first_keeps w p bs room (Ok h) is kept =
     (subst (MarksKept w.hub.table) (sym (heard_marks _ h (status_in bs))) (marks_of kept))
 first_keeps w p bs room (Err e) is kept = kept
 
-second_keeps : (w : World) (p : SecondPass) (bs : List ℕ) (r : Result ℕ SecondRefusal) → second_check w.hub p (length bs) ≡ r → HubKept w → HubKept (ended_world w bs r)
+second_keeps : (w : World) (p : SecondPass) (bs : List ℕ) (r : Result ℕ SecondRefusal) → check second_of w.hub p bs ≡ r → HubKept w → HubKept (ended_world w bs r)
 second_keeps w p bs (Ok h) is kept =
     both_kept
     (reported_kept w.hub w.memory.sheets h (λ u. setup_hearing (setting_if (sent_in w.hub.slot) u) (heard_in bs) u) Closed (heads_of kept)
-    (second_served w.hub p (length bs) h is)
+    (second_for w.hub p bs h is)
     (λ u. hearing_sheet (setting_if (sent_in w.hub.slot) u) (heard_in bs) u)
-    (λ k e. absurd (none≢some e)))
+    (λ k e. cc))
     (marks_of kept)
 second_keeps w p bs (Err e) is kept = kept
 
@@ -426,9 +367,9 @@ step_keeps : (w : World) {e : Event} {v : World} → Step w e v → HubKept w �
 step_keeps w (admits n d checked by same) kept = admission_keeps w n d checked by kept
 step_keeps w (dismisses n) kept = dismissal_keeps w n kept
 step_keeps w (opens wish room) kept = opening_keeps w wish room (opening_answer w.hub wish room) refl kept
-step_keeps w (reports p bs room fair) kept = first_keeps w p bs room (first_check w.hub p (length bs) room) refl kept
-step_keeps w (ends p bs) kept = second_keeps w p bs (second_check w.hub p (length bs)) refl kept
-step_keeps w (cuts p bs n fair) kept = cut_keeps w bs n (cut_check w.hub p (length bs)) kept
+step_keeps w (reports p bs room fair) kept = first_keeps w p bs room (first_check w.hub p bs room) refl kept
+step_keeps w (ends p bs) kept = second_keeps w p bs (check second_of w.hub p bs) refl kept
+step_keeps w (cuts p bs n fair) kept = cut_keeps w bs n (check first_of w.hub p bs) kept
 step_keeps w restarts kept = restart_keeps w kept
 step_keeps w (poll_arrives h line served) kept = both_kept (heads_of kept) (marks_of kept)
 step_keeps w (second_arrives h m line served) kept = both_kept (heads_of kept) (marks_of kept)

@@ -1,7 +1,6 @@
 -- Marks tell calls of the turn table, so what holds of all such calls holds of the marks. Assumes nothing.
-use Rattle.std.proofs.Common.{◌≡◌, ℕ, ◌+◌, cond, eqb, ◌↔◌, List, [], ◌∷◌, ◌++◌, map, length, is_some, Some, None, Option, sym, refl, ap, ◌∙◌, subst, arith}
-use Rattle.orders.specs.Choice.{chosen}
-use Rattle.orders.specs.Orders.{times, SomeOrderFrom}
+use Rattle.std.proofs.Common.{◌≡◌, ℕ, ◌+◌, cond, eqb, List, [], ◌∷◌, ◌++◌, map, length, Some, None, Option, sym, refl, subst, arith}
+use Rattle.orders.specs.Orders.{times}
 use Rattle.orders.specs.Tables.{Table, empty_table}
 use Rattle.orders.proofs.Keeps.{Keeps}
 use Rattle.orders.proofs.Lists.{count_cons}
@@ -21,13 +20,11 @@ table_append t (m ∷ ms) later = table_append m.table ms later
 
 pub faithful_append : (t : Table) (ms later : List Mark) → Faithful t ms → Faithful (table_after t ms) later → Faithful t (ms ++ later)
 faithful_append t [] later told after = after
-faithful_append t (m ∷ ms) later (next, slot, told) after = (next, slot, faithful_append m.table ms later told after)
+faithful_append t (m ∷ ms) later told after = grind (arith, faithful_append m.table ms later)
 
 faithful_split : (t : Table) (ms later : List Mark) → Faithful t (ms ++ later) → Faithful t ms × Faithful (table_after t ms) later
 faithful_split t [] later told = (tt, told)
-faithful_split t (m ∷ ms) later (next, slot, told) =
-    let parts = faithful_split m.table ms later told in
-    ((next, slot, parts.0), parts.1)
+faithful_split t (m ∷ ms) later told = grind (arith, faithful_split m.table ms later)
 
 -- MARKS AS CALLS
 
@@ -36,7 +33,7 @@ calls_in ms = map (λ m. m.call) ms
 
 table_told : (t : Table) (ms : List Mark) → Faithful t ms → table_after t ms ≡ after_calls t (calls_in ms)
 table_told t [] told = refl
-table_told t (m ∷ ms) (next, slot, told) = table_told m.table ms told ∙ ap (λ u. after_calls u (calls_in ms)) next
+table_told t (m ∷ ms) (next, slot, told) = grind (arith, table_told m.table ms told)
 
 -- a table that marks lead to can exist
 pub marks_keep : (ms : List Mark) → Faithful empty_table ms → Keeps (table_after empty_table ms)
@@ -44,25 +41,11 @@ marks_keep ms told = subst Keeps (sym (table_told empty_table ms told)) (calls_k
 
 stay_told : (h : ℕ) (t : Table) (ms : List Mark) → Faithful t ms → StaysAdmitted h t ms → turns.StaysAdmitted h t (calls_in ms)
 stay_told h t [] told stay = stay
-stay_told h t (m ∷ ms) (next, slot, told) stay = (
-  stay.0,
-  subst (λ u. turns.StaysAdmitted h u (calls_in ms)) next (stay_told h m.table ms told stay.1),
-)
-
-length_with : (slot : Option ℕ) (later : List ℕ) → length (with_slot slot later) ≡ cond (is_some slot) 1 0 + length later
-length_with None later = omega arith
-length_with (Some h) later = omega arith
+stay_told h t (m ∷ ms) (next, slot, told) stay = grind (arith, stay_told h m.table ms told stay.1)
 
 slots_told : (t : Table) (ms : List Mark) → Faithful t ms → slots_in ms ≡ length (slots t (calls_in ms))
 slots_told t [] told = refl
-slots_told t (m ∷ ms) (next, slot, told) =
-    omega (
-      arith,
-      ap (λ s. cond (is_some s) 1 0 + slots_in ms) slot,
-      slots_told m.table ms told,
-      ap (λ u. length (slots u (calls_in ms))) next,
-      length_with (slot_of t m.call) (slots (after_call t m.call) (calls_in ms)),
-    )
+slots_told t (m ∷ ms) (next, slot, told) = grind (arith, slots_told m.table ms told)
 
 times_with : (h : ℕ) (slot : Option ℕ) (later : List ℕ) → times h (with_slot slot later) ≡ cond (is_for h slot) 1 0 + times h later
 times_with h None later = omega arith
@@ -70,14 +53,7 @@ times_with h (Some g) later = count_cons (eqb h) g later
 
 times_told : (h : ℕ) (t : Table) (ms : List Mark) → Faithful t ms → slots_for h ms ≡ times h (slots t (calls_in ms))
 times_told h t [] told = refl
-times_told h t (m ∷ ms) (next, slot, told) =
-    omega (
-      arith,
-      ap (λ s. cond (is_for h s) 1 0 + slots_for h ms) slot,
-      times_told h m.table ms told,
-      ap (λ u. times h (slots u (calls_in ms))) next,
-      times_with h (slot_of t m.call) (slots (after_call t m.call) (calls_in ms)),
-    )
+times_told h t (m ∷ ms) (next, slot, told) = grind (arith, times_told h m.table ms told, times_with)
 
 -- THE LAW OF TURNS
 
@@ -98,7 +74,6 @@ pub wishes_kept : (w : World) → HubKept w → WishesPassedOverRightly w
 wishes_kept w kept before later m wish is call in' =
     let t = table_after empty_table before in
     let parts = faithful_split empty_table before (m ∷ later) (subst (Faithful empty_table) is kept.faithful) in
-    let law : WishesAreGranted t =
-    subst WishesAreGranted (sym (table_told empty_table before parts.0)) (turns_keep_their_law_lem.wishes (calls_in before)) in
-    let served : m.served ≡ chosen t wish = parts.1.1 ∙ ap (slot_of t) call in
-    subst (λ s. (s ≡ Some wish → ⊥) ↔ (SomeOrderFrom t wish → ⊥)) (sym served) (law.passed_over wish)
+    let law : WishesAreGranted t = subst WishesAreGranted (sym (table_told empty_table before parts.0)) (turns_keep_their_law_lem.wishes (calls_in before)) in
+    let granted = law.passed_over wish in
+    grind (arith, granted)

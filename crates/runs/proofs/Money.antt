@@ -1,45 +1,30 @@
 -- At every moment of every run every box closes, and every taken bill is credited in time. Assumes nothing.
-use Rattle.std.proofs.Common.{◌≡◌, ℕ, ◌+◌, cond, ◌||◌, List, [], ◌∷◌, Some, None, Option, refl, ap, ◌∙◌, inl, inr, arith}
-use Rattle.std.proofs.lemmas.Bool.{eq-eqb}
+use Rattle.std.proofs.Common.{◌≡◌, ℕ, ◌+◌, List, [], Option, refl, arith}
 use Rattle.sheet.specs.declared.sheet.Draft.{Draft}
 use Rattle.ledger.specs.Held.{Held, Heads}
 use Rattle.runs.specs.Worlds.{Taken, Past, World, new_world}
 use Rattle.runs.specs.Steps.{Event, Unused, Run, starts, goes_on}
-use Rattle.runs.specs.Law.{worth_on, worth_of, is_taken, owed, EveryBoxCloses, EveryTakenBillIsCredited}
-use Rattle.runs.proofs.Basics.{not_some}
+use Rattle.runs.specs.Law.{worth_of, is_taken, owed, EveryBoxCloses, EveryTakenBillIsCredited}
 use Rattle.runs.proofs.HubSteps.{hub_kept}
-use Rattle.runs.proofs.Classes.{Class, class, quiet, lying, entering, boxed, stored}
-use Rattle.runs.proofs.Kept.{Untaken, Owing, Agrees, MoneyKeptIn}
+use Rattle.runs.proofs.Classes.{Class, class}
+use Rattle.runs.proofs.Kept.{Owing, Agrees, MoneyKeptIn}
 use Rattle.runs.proofs.OwnMoves.{untaken_none, untaken_entering}
 use Rattle.runs.proofs.Steps.{step_keeps}
 
 -- WHAT IS SO OF THE MONEY CLOSES THE BOX
 
-settled_closes : (o : Option ℕ) (total bill worth : ℕ) (taken : List Taken) → total ≡ worth → Untaken o bill taken → total + owed o (is_taken bill taken) ≡ worth
-settled_closes None total bill worth taken e u = omega arith
-settled_closes (Some a) total bill worth taken e u = ap (λ t. total + cond t a 0) (u a refl) ∙ omega arith
-
 owing_closes : (sheet : Option Draft) (v : Held) (bill : ℕ) (credited : List ℕ) (taken : List Taken) → Owing sheet v bill credited taken → v.credited + owed v.promised (is_taken bill taken) ≡ worth_of sheet taken
-owing_closes sheet v bill credited [] h = absurd h
-owing_closes sheet v bill credited (t ∷ ts) h =
-    ap (λ o. v.credited + owed o (is_taken bill (t ∷ ts))) h.0
-    ∙ ap (λ b. v.credited + cond b (worth_on sheet t.code) 0) (ap (λ b. b || is_taken bill ts) (eq-eqb bill t.bill h.1))
-    ∙ omega (arith, h.2.sum)
+owing_closes sheet v bill credited taken h = grind arith
 
 closes : (C : Class) (sheet : Option Draft) (b : ℕ) (v : Held) (p : Past) → Agrees C sheet b v p → v.credited + owed v.promised (is_taken p.promised p.taken) ≡ worth_of sheet p.taken
-closes quiet sheet b v p h = settled_closes v.promised v.credited p.promised (worth_of sheet p.taken) p.taken h.0.sum h.1
-closes (lying c) sheet b v p h = settled_closes v.promised v.credited p.promised (worth_of sheet p.taken) p.taken h.0.sum h.1
-closes (entering c) sheet b v p h = settled_closes v.promised v.credited p.promised (worth_of sheet p.taken) p.taken h.0.sum (untaken_entering b p.promised p.taken h.3 h.4)
-closes boxed sheet b v p (inl h) = settled_closes v.promised v.credited p.promised (worth_of sheet p.taken) p.taken h.0.sum (untaken_none p.promised p.taken h.1)
-closes boxed sheet b v p (inr h) = owing_closes sheet v p.promised p.credited p.taken h
-closes stored sheet b v p h = settled_closes v.promised v.credited p.promised (worth_of sheet p.taken) p.taken h.0.sum (untaken_none p.promised p.taken h.1)
+closes C sheet b v p h = grind (arith, owing_closes, untaken_none, untaken_entering)
 
 -- RUNS
 
 start_keeps : (ledger : Heads) → Unused ledger → MoneyKeptIn (new_world ledger)
 start_keeps ledger unused = record {
   kept = λ h. record { below = tt; priced = refl; agrees = (record { sum = (unused h).1; all = tt }, untaken_none 0 [] (unused h).0); prompt = tt };
-  inside = λ h e. not_some h e;
+  inside = λ h e. cc;
   numbers = tt;
 }
 

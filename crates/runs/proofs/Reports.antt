@@ -1,5 +1,5 @@
 -- First reports keep what is so of the money after each of their ledger calls, and leave the line as it should be. Assumes nothing.
-use Rattle.std.proofs.Common.{◌≡◌, ℕ, zero, suc, ◌<◌, cond, List, [], ◌∷◌, ◌++◌, take, is_ok, Some, None, Ok, Err, Option, unwrap_or, sym, refl, ap, ◌∙◌, subst}
+use Rattle.std.proofs.Common.{◌≡◌, ℕ, zero, suc, ◌<◌, cond, List, [], ◌∷◌, ◌++◌, take, is_ok, Some, None, Ok, Err, Option, sym, refl, ap, subst, arith}
 use Rattle.frame.specs.Frames.{Content}
 use Rattle.sheet.specs.Settings.{settings_of, nth}
 use Rattle.sheet.specs.Sheets.{draft_of, value_of}
@@ -22,35 +22,23 @@ use Rattle.runs.specs.declared.Allowance.{Allowance}
 use Rattle.runs.specs.Worlds.{Past, World}
 use Rattle.runs.specs.Steps.{noted, noted_all, bill_answered, sending}
 use Rattle.runs.specs.Law.{worth_on}
-use Rattle.runs.proofs.Classes.{Class, class, quiet, lying, entering, boxed, stored, stack, back, reset, acknowledge, order_content, Told, Reacts, back_only, back_setting, back_reset, back_stack, back_return, idles, idles_setting, settles, settles_reset}
+use Rattle.runs.proofs.Classes.{Class, class, stack, back, reset, acknowledge, order_content, Told, Reacts, back_only, back_setting, back_reset, back_stack, back_return, idles, idles_setting, settles, settles_reset}
 use Rattle.runs.proofs.Kept.{AllSettled, Kept, Calm, Boxed, Lies, Old, Heard, Ready, Safe, ordered, setting, OnLine}
 use Rattle.runs.proofs.Frames.{settled_old}
 use Rattle.runs.proofs.Calls.{end_accepted, settled_past, promised_past, agrees_back, agrees_promise, all_settled, agrees_settled, settled_unpromised, calm_settled, lies_calm, prompt_settled}
 
 calm_safe : (C : Class) (v : Held) → Calm C → Safe C v
-calm_safe quiet v k = tt
-calm_safe (lying c) v k = tt
-calm_safe (entering c) v k = k
-calm_safe boxed v k = absurd k
-calm_safe stored v k = k
+calm_safe C v k = grind arith
 
 boxed_safe : (C : Class) (v : Held) → v.promised ≡ None → Boxed C → Safe C v
-boxed_safe quiet v none k = tt
-boxed_safe (lying c) v none k = tt
-boxed_safe (entering c) v none k = k
-boxed_safe boxed v none k = none
-boxed_safe stored v none k = k
+boxed_safe C v none k = grind arith
 
 -- the value promised is what the bill is worth on the sheet
 promised_worth_lem : (sheet : Option Draft) (s : Sheet) (c value : ℕ) → sheet ≡ Some (draft_of s) → value_of s c ≡ Some value → value ≡ worth_on sheet c
-promised_worth_lem sheet s c value is worth = ap (λ o. unwrap_or o 0) (sym worth ∙ value_on_draft s c) ∙ ap (λ o. worth_on o c) (sym is)
+promised_worth_lem sheet s c value is worth = grind (arith, value_on_draft)
 
 ready : (l : Allowance) (sheet : Option Draft) (C : Class) (b c i value : ℕ) (v : Held) (p : Past) → value ≡ worth_on sheet c → v.promised ≡ Some value → Lies l c i C b p → Ready l sheet C b v (promised_past i p)
-ready l sheet quiet b c i value v p worth is k = k.0
-ready l sheet (lying x) b c i value v p worth is k = (k.0, is ∙ ap Some (worth ∙ ap (worth_on sheet) (sym k.1)), sym k.2)
-ready l sheet (entering x) b c i value v p worth is k = k
-ready l sheet boxed b c i value v p worth is k = k
-ready l sheet stored b c i value v p worth is k = k
+ready l sheet C b c i value v p worth is k = grind arith
 
 -- Of head h, while the slot is for it.
 module _ (w : World) (h : ℕ) where
@@ -129,8 +117,7 @@ module _ (w : World) (h : ℕ) where
       )
 
   no_ending : (Q : Held → Past → Type 0) (t : Heads) (p : Past) (o : Option ℕ) → KeptWith (t h) p → Q (t h) p → Through Q (if_called (ending_of None o) ++ []) t p
-  no_ending Q t p None g q = (g, q)
-  no_ending Q t p (Some a) g q = (g, q)
+  no_ending Q t p o g q = grind arith
 
   -- PROMISING THE BILL IN ESCROW
 

@@ -1,51 +1,64 @@
 -- For which head a report is, what it hears, and when a slot is closed. Assumes nothing.
-use Rattle.std.proofs.Common.{◌≡◌, ℕ, Bool, true, false, cond, eqb, ltb, ◌⊎◌, List, Some, None, Ok, Option, Result, sym, refl, ap, ◌∙◌, inl, inr}
-use Rattle.std.proofs.lemmas.Bool.{false≢true}
+use Rattle.std.proofs.Common.{◌≡◌, ℕ, Bool, true, false, cond, eqb, ltb, ◌⊎◌, List, length, Some, None, Ok, Err, Option, Result, refl, ap, ◌∙◌, inl, inr}
 use Rattle.sheet.specs.declared.fault.SheetFault.{SheetFault}
 use Rattle.sheet.specs.declared.sheet.Sheet.{Sheet}
 use Rattle.head.specs.Phases.{status}
 use Rattle.head.specs.declared.phase.Phase.{Phase}
-use Rattle.hub.specs.States.{HubState, served_by, first_of, first_awaited, is_open}
+use Rattle.hub.specs.Passes.{FirstPass, SecondPass}
+use Rattle.hub.specs.Refusals.{CutRefusal}
+use Rattle.hub.specs.States.{HubState, served_by, first_of, second_of, awaited_by, is_open}
 use Rattle.hub.specs.Heads.{admission_answer}
-use Rattle.hub.specs.Reports.{heard_in, status_in, status_of, read_as, handed_first, first_check, handed_cut, cut_check}
-use Rattle.hub.specs.declared.pass.FirstPass.{FirstPass}
+use Rattle.hub.specs.Reports.{heard_in, status_in, status_of, read_as, handed, check, with_room, first_check}
+use Rattle.hub.specs.declared.pass.Pass.{Pass}
 use Rattle.hub.specs.declared.state.Slot.{Slot}
 use Rattle.hub.specs.declared.state.Slot.TheVariants.{Closed, First, Second}
 use Rattle.runs.specs.Worlds.{Line, still, poll, answer, second, replied}
 use Rattle.runs.specs.Steps.{FairlyHeard}
-use Rattle.runs.proofs.Basics.{not_some, err_not_ok, passed}
+use Rattle.runs.proofs.Basics.{passed}
 use Rattle.runs.proofs.Classes.{status_reads}
-
-ok_some : {E : Type 0} (g h : ℕ) → ◌≡◌ {A = Result ℕ E} (Ok g) (Ok h) → Some g ≡ Some h
-ok_some g h e = cc
 
 -- WHOSE REPORT
 
-first_served : (slot : Slot) (h : ℕ) → first_of slot ≡ Some h → served_by slot ≡ Some h
-first_served Closed h e = e
-first_served (First g) h e = e
-first_served (Second g sent) h e = not_some h e
+-- what a slot awaits is a report of the head served
+abbrev Serves : (Slot → Option ℕ) → Type 0
+Serves of = (slot : Slot) (h : ℕ) → of slot ≡ Some h → served_by slot ≡ Some h
 
-awaited_served : (s : HubState) (n h : ℕ) → first_awaited s n ≡ Some h → served_by s.slot ≡ Some h
-awaited_served s n h = go (eqb n s.count)
+first_serves : Serves first_of
+first_serves Closed h e = e
+first_serves (First g) h e = e
+first_serves (Second g sent) h e = cc
+
+second_serves : Serves second_of
+second_serves Closed h e = e
+second_serves (First g) h e = cc
+second_serves (Second g sent) h e = e
+
+awaited_serves : {of : Slot → Option ℕ} → Serves of → (s : HubState) (n h : ℕ) → awaited_by of s n ≡ Some h → served_by s.slot ≡ Some h
+awaited_serves {of} serves s n h = go (eqb n s.count)
   where
-    go : (b : Bool) → cond b (first_of s.slot) None ≡ Some h → served_by s.slot ≡ Some h
-    go true e = first_served s.slot h e
-    go false e = not_some h e
+    go : (b : Bool) → cond b (of s.slot) None ≡ Some h → served_by s.slot ≡ Some h
+    go true e = serves s.slot h e
+    go false e = cc
 
-handed_first_lem : (o : Option ℕ) (p : FirstPass) (n room h : ℕ) → handed_first o p n room ≡ Ok h → o ≡ Some h
-handed_first_lem None p n room h e = err_not_ok _ h e
-handed_first_lem (Some g) p n room h e = ok_some g h (passed (ltb room 7) _ _ h (passed (ltb 512 n) _ _ h e).1).1
+handed_for : {R : Type 0} (o : Option ℕ) (p : Pass R) (bs : List ℕ) (h : ℕ) → handed o p bs ≡ Ok h → o ≡ Some h
+handed_for None p bs h e = cc
+handed_for (Some g) p bs h e = let taken = (passed (ltb 512 (length bs)) _ _ h e).1 in cc
 
-handed_cut_lem : (o : Option ℕ) (p : FirstPass) (n h : ℕ) → handed_cut o p n ≡ Ok h → o ≡ Some h
-handed_cut_lem None p n h e = err_not_ok _ h e
-handed_cut_lem (Some g) p n h e = ok_some g h (passed (ltb 512 n) _ _ h e).1
+report_for : {R : Type 0} {of : Slot → Option ℕ} → Serves of → (s : HubState) (p : Pass R) (bs : List ℕ) (h : ℕ) → check of s p bs ≡ Ok h → served_by s.slot ≡ Some h
+report_for {of = of} serves s p bs h e = awaited_serves serves s p.count h (handed_for (awaited_by of s p.count) p bs h e)
 
-pub first_for : (s : HubState) (p : FirstPass) (n room h : ℕ) → first_check s p n room ≡ Ok h → served_by s.slot ≡ Some h
-first_for s p n room h e = awaited_served s p.count h (handed_first_lem (first_awaited s p.count) p n room h e)
+pub cut_for : (s : HubState) (p : FirstPass) (bs : List ℕ) (h : ℕ) → check first_of s p bs ≡ Ok h → served_by s.slot ≡ Some h
+cut_for = report_for first_serves
 
-pub cut_for : (s : HubState) (p : FirstPass) (n h : ℕ) → cut_check s p n ≡ Ok h → served_by s.slot ≡ Some h
-cut_for s p n h e = awaited_served s p.count h (handed_cut_lem (first_awaited s p.count) p n h e)
+pub second_for : (s : HubState) (p : SecondPass) (bs : List ℕ) (h : ℕ) → check second_of s p bs ≡ Ok h → served_by s.slot ≡ Some h
+second_for = report_for second_serves
+
+pub first_for : (s : HubState) (p : FirstPass) (bs : List ℕ) (room h : ℕ) → first_check s p bs room ≡ Ok h → served_by s.slot ≡ Some h
+first_for s p bs room h e = cut_for s p bs h (in_room (check first_of s p bs) e)
+  where
+    in_room : (r : Result ℕ CutRefusal) → with_room room p r ≡ Ok h → r ≡ Ok h
+    in_room (Ok g) e = let fits = (passed (ltb room 7) _ _ h e).1 in cc
+    in_room (Err f) e = cc
 
 -- WHAT IS HEARD
 
@@ -65,8 +78,8 @@ hears (replied o) bs e = inl e
 
 not_open : (slot : Slot) → is_open slot ≡ false → served_by slot ≡ None
 not_open Closed e = refl
-not_open (First h) e = absurd (false≢true (sym e))
-not_open (Second h sent) e = absurd (false≢true (sym e))
+not_open (First h) e = cc
+not_open (Second h sent) e = cc
 
 -- a head is admitted between slots
 pub admits_closed : (s : HubState) (n : ℕ) (checked : Result Sheet SheetFault) → admission_answer s n checked ≡ Ok tt → served_by s.slot ≡ None

@@ -1,5 +1,6 @@
 -- Every step keeps what is so of the money. Assumes nothing.
-use Rattle.std.proofs.Common.{◌≡◌, ℕ, suc, ◌<◌, ◌≤◌, Bool, true, cond, eqb, List, ◌∷◌, length, take, is_some, Some, None, Ok, Err, Option, Result, sym, refl, ap, ◌∙◌, subst, subst₂, inl, inr, arith}
+use Rattle.std.proofs.Common.{◌≡◌, ℕ, suc, ◌<◌, ◌≤◌, Bool, true, cond, eqb, List, ◌∷◌, take, is_some, Some, None, Ok, Err, Option, Result, sym, refl, ap, ◌∙◌, subst, subst₂, inl, inr, arith}
+use Rattle.std.proofs.ByRecursion.{All-weaker}
 use Rattle.frame.specs.Frames.{Content}
 use Rattle.sheet.specs.declared.fault.SheetFault.{SheetFault}
 use Rattle.sheet.specs.declared.sheet.Draft.{Draft}
@@ -15,23 +16,23 @@ use Rattle.head.specs.Moves.{Moves, held_byte}
 use Rattle.head.specs.Phases.{held, status}
 use Rattle.head.specs.declared.head.Head.{Head}
 use Rattle.head.specs.declared.phase.Phase.{Phase}
-use Rattle.hub.specs.States.{served_by, setup_of}
+use Rattle.hub.specs.States.{served_by, setup_of, first_of, second_of}
 use Rattle.hub.specs.Heads.{admission_answer, admitted_by, dismissal_answer, dismissed_by}
 use Rattle.hub.specs.Slots.{opening_answer}
-use Rattle.hub.specs.Reports.{reaction_in, sent_by, first_check, second_check, cut_check}
-use Rattle.hub.specs.declared.pass.FirstPass.{FirstPass}
+use Rattle.hub.specs.Passes.{FirstPass}
+use Rattle.hub.specs.Refusals.{CutRefusal, SecondRefusal}
+use Rattle.hub.specs.Reports.{reaction_in, sent_by, check, first_check}
 use Rattle.hub.specs.declared.pass.Opening.{Opening}
 use Rattle.hub.specs.declared.refusal.AdmissionRefusal.{AdmissionRefusal}
-use Rattle.hub.specs.declared.refusal.CutRefusal.{CutRefusal}
 use Rattle.hub.specs.declared.refusal.DismissalRefusal.{DismissalRefusal}
 use Rattle.hub.specs.declared.refusal.FirstRefusal.{FirstRefusal}
 use Rattle.hub.specs.declared.refusal.OpeningRefusal.{OpeningRefusal}
-use Rattle.hub.specs.declared.refusal.SecondRefusal.{SecondRefusal}
 use Rattle.runs.specs.declared.Allowance.{Allowance}
 use Rattle.runs.specs.declared.Allowance.TheVariants.{Free, One}
 use Rattle.runs.specs.Worlds.{Past, still, answer, second, HeardSlot, Mark, World}
 use Rattle.runs.specs.Steps.{Event, with_marks, with_past, memory_admitting, memory_dismissing, noted_all, bill_answered, heard_answer, bringing, taking, opened_world, sending, reported_world, ended_world, cut_world, answered_world, obeyed_world, moved_world, FairlyHeard, SameSheet, Allows, elsewhere, freely, once, Step, admits, dismisses, opens, reports, ends, cuts, restarts, poll_arrives, second_arrives, moves}
-use Rattle.runs.proofs.Basics.{every_map, not_some, same_some, some_of, at_eq}
+use Rattle.ledger.proofs.CallLaws.{some_of}
+use Rattle.runs.proofs.Basics.{same_some, at_eq}
 use Rattle.runs.proofs.HubInvariant.{HubKept}
 use Rattle.runs.proofs.Classes.{class, move_goes, tells, reacts}
 use Rattle.runs.proofs.Kept.{Kept, Heard, OnLine, KeptOf, LineOf, MoneyKept, MoneyKeptIn}
@@ -64,7 +65,7 @@ module _ (w : World) (hub : HubKept w) (inv : MoneyKeptIn w) where
         at_eq (λ h b. Kept h w.memory.heard (cond b (Some d) (w.memory.sheets h)) (class (w.heads h).phase) (w.memory.bills h) (w.ledger h) (w.memory.pasts h)) n
         (sheet_keeps n w.memory.heard (w.memory.sheets n) d (class (w.heads n).phase) (w.memory.bills n) (w.ledger n) (w.memory.pasts n) (same refl) (inv.kept n))
         (λ h ne. inv.kept h);
-    inside = λ h is. not_some h (sym (admits_closed w.hub n (Ok sheet) e) ∙ is);
+    inside = λ h is. cc (sym (admits_closed w.hub n (Ok sheet) e) ∙ is);
     numbers = inv.numbers;
   }
   admitted n d (Ok sheet) (Err f) e same = inv
@@ -80,16 +81,16 @@ module _ (w : World) (hub : HubKept w) (inv : MoneyKeptIn w) where
   opened wish (Ok o) = record {
     kept = inv.kept;
     inside = λ h is. tt;
-    numbers = every_map (λ s. s.number ≤ w.memory.opened) (λ s. s.number ≤ suc w.memory.opened) (λ s le. omega arith) w.memory.heard inv.numbers;
+    numbers = All-weaker (λ s. s.number ≤ w.memory.opened) (λ s. s.number ≤ suc w.memory.opened) (λ s le. omega arith) w.memory.heard inv.numbers;
   }
   opened wish (Err e) = inv
 
   ended : (bs : List ℕ) (r : Result ℕ SecondRefusal) → MoneyKeptIn (ended_world w bs r)
-  ended bs (Ok h) = record { kept = inv.kept; inside = λ k is. not_some k is; numbers = inv.numbers }
+  ended bs (Ok h) = record { kept = inv.kept; inside = λ k is. cc; numbers = inv.numbers }
   ended bs (Err e) = inv
 
   restarted_so : (marks : List Mark) → MoneyKept None w.ledger w.heads still Free (with_marks w.memory marks)
-  restarted_so marks = record { kept = inv.kept; inside = λ h is. not_some h is; numbers = inv.numbers }
+  restarted_so marks = record { kept = inv.kept; inside = λ h is. cc; numbers = inv.numbers }
 
   -- FIRST REPORTS
 
@@ -133,7 +134,7 @@ module _ (w : World) (hub : HubKept w) (inv : MoneyKeptIn w) where
         MoneyKept None (called_all w.ledger h (take n cs)) w.heads still Free (with_marks (with_past w.memory h (past_after (take n cs))) marks)
     cut_after n marks cs g = record {
       kept = all_kept w.memory.heard (take n cs) g (λ k ne. inv.kept k);
-      inside = λ k e. not_some k e;
+      inside = λ k e. cc;
       numbers = inv.numbers;
     }
 
@@ -254,18 +255,18 @@ module _ (w : World) (hub : HubKept w) (inv : MoneyKeptIn w) where
 
   -- EVERY STEP
 
-  reported : (p : FirstPass) (bs : List ℕ) (room : ℕ) → ((h : ℕ) → first_check w.hub p (length bs) room ≡ Ok h → FairlyHeard w.line bs) → MoneyKeptIn (reported_world w bs (first_check w.hub p (length bs) room))
-  reported p bs room fair = go (first_check w.hub p (length bs) room) refl
+  reported : (p : FirstPass) (bs : List ℕ) (room : ℕ) → ((h : ℕ) → first_check w.hub p bs room ≡ Ok h → FairlyHeard w.line bs) → MoneyKeptIn (reported_world w bs (first_check w.hub p bs room))
+  reported p bs room fair = go (first_check w.hub p bs room) refl
     where
-      go : (r : Result ℕ FirstRefusal) → first_check w.hub p (length bs) room ≡ r → MoneyKeptIn (reported_world w bs r)
-      go (Ok h) e = reported_for h (first_for w.hub p (length bs) room h e) bs (fair h e)
+      go : (r : Result ℕ FirstRefusal) → first_check w.hub p bs room ≡ r → MoneyKeptIn (reported_world w bs r)
+      go (Ok h) e = reported_for h (first_for w.hub p bs room h e) bs (fair h e)
       go (Err f) e = inv
 
-  cut_off : (p : FirstPass) (bs : List ℕ) (n : ℕ) → ((h : ℕ) → cut_check w.hub p (length bs) ≡ Ok h → FairlyHeard w.line bs) → MoneyKeptIn (cut_world w bs n (cut_check w.hub p (length bs)))
-  cut_off p bs n fair = go (cut_check w.hub p (length bs)) refl
+  cut_off : (p : FirstPass) (bs : List ℕ) (n : ℕ) → ((h : ℕ) → check first_of w.hub p bs ≡ Ok h → FairlyHeard w.line bs) → MoneyKeptIn (cut_world w bs n (check first_of w.hub p bs))
+  cut_off p bs n fair = go (check first_of w.hub p bs) refl
     where
-      go : (r : Result ℕ CutRefusal) → cut_check w.hub p (length bs) ≡ r → MoneyKeptIn (cut_world w bs n r)
-      go (Ok h) e = cut_during h (cut_for w.hub p (length bs) h e) bs n (fair h e)
+      go : (r : Result ℕ CutRefusal) → check first_of w.hub p bs ≡ r → MoneyKeptIn (cut_world w bs n r)
+      go (Ok h) e = cut_during h (cut_for w.hub p bs h e) bs n (fair h e)
       go (Err f) e = inv
 
   pub step_keeps : {v : World} {e : Event} → Step w e v → MoneyKeptIn v
@@ -273,9 +274,9 @@ module _ (w : World) (hub : HubKept w) (inv : MoneyKeptIn w) where
   step_keeps (dismisses n) = dismissed n (dismissal_answer w.hub n)
   step_keeps (opens wish room) = opened wish (opening_answer w.hub wish room)
   step_keeps (reports p bs room fair) = reported p bs room fair
-  step_keeps (ends p bs) = ended bs (second_check w.hub p (length bs))
+  step_keeps (ends p bs) = ended bs (check second_of w.hub p bs)
   step_keeps (cuts p bs n fair) = cut_off p bs n fair
   step_keeps restarts = restarted_so _
   step_keeps (poll_arrives h polled is) = poll_answered h is
   step_keeps (second_arrives h m sends is) = frame_obeyed h is m sends
-  step_keeps (moves k q after took left in_hub move allows) = moved k q after took left move allows
+  step_keeps (moves k q after took left _ move allows) = moved k q after took left move allows

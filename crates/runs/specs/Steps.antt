@@ -13,7 +13,7 @@
 -- Hub, ledger and heads change by the definitions that the contracts of their calls cite. A power cut inside a first report
 -- is one step with the restart that follows it; a cut elsewhere is the call done, or not begun, and a restart. What lies
 -- between two ledger calls of a report is what a cut there leaves. Assumes nothing.
-use Rattle.std.specs.Prelude.{◌≡◌, ℕ, suc, ◌<◌, Bool, cond, ◌⊎◌, List, [], ◌∷◌, ◌++◌, length, take, is_ok, Some, None, Ok, Err, Option, Result, ◌==◌, ◌≢◌}
+use Rattle.std.specs.Prelude.{◌≡◌, ℕ, suc, ◌<◌, Bool, cond, ◌⊎◌, List, [], ◌∷◌, ◌++◌, take, is_ok, Some, None, Ok, Err, Option, Result, ◌==◌, ◌≢◌}
 use Rattle.frame.specs.Frames.{Content}
 use Rattle.turns.specs.Runs.{admit, dismiss, dismiss_all, serve}
 use Rattle.turns.specs.Runs as turns
@@ -31,19 +31,17 @@ use Rattle.head.specs.Moves.{Moves, held_byte}
 use Rattle.head.specs.Phases.{code, held, status}
 use Rattle.head.specs.declared.head.Head.{Head}
 use Rattle.head.specs.declared.phase.Phase.{Phase}
-use Rattle.hub.specs.States.{HubState, served_by, restarted}
+use Rattle.hub.specs.Passes.{FirstPass, SecondPass}
+use Rattle.hub.specs.Refusals.{CutRefusal, SecondRefusal}
+use Rattle.hub.specs.States.{HubState, served_by, first_of, second_of, restarted}
 use Rattle.hub.specs.Heads.{admission_answer, after_admission, dismissal_answer, after_dismissal}
 use Rattle.hub.specs.Slots.{opening_answer, after_opening}
-use Rattle.hub.specs.Reports.{heard_in, status_in, first_check, first_calls, first_sent, after_first, ledger_after_first, second_check, after_second, cut_check, after_cut, ledger_after_cut}
-use Rattle.hub.specs.declared.pass.FirstPass.{FirstPass}
+use Rattle.hub.specs.Reports.{heard_in, status_in, check, first_check, first_calls, first_sent, after_first, ledger_after_first, after_second, after_cut, ledger_after_cut}
 use Rattle.hub.specs.declared.pass.Opening.{Opening}
-use Rattle.hub.specs.declared.pass.SecondPass.{SecondPass}
 use Rattle.hub.specs.declared.refusal.AdmissionRefusal.{AdmissionRefusal}
-use Rattle.hub.specs.declared.refusal.CutRefusal.{CutRefusal}
 use Rattle.hub.specs.declared.refusal.DismissalRefusal.{DismissalRefusal}
 use Rattle.hub.specs.declared.refusal.FirstRefusal.{FirstRefusal}
 use Rattle.hub.specs.declared.refusal.OpeningRefusal.{OpeningRefusal}
-use Rattle.hub.specs.declared.refusal.SecondRefusal.{SecondRefusal}
 use Rattle.runs.specs.declared.Allowance.{Allowance}
 use Rattle.runs.specs.declared.Allowance.TheVariants.{Free, One, Spent}
 use Rattle.runs.specs.Worlds.{Taken, Past, Line, still, poll, answer, second, replied, Mark, Memory, World, put, new_world}
@@ -269,12 +267,12 @@ pub data Step (w : World) : Event → World → Type 0 where
   opens : (wish room : ℕ) → Step w (opening wish room) (opened_world w wish (opening_answer w.hub wish room))
   -- what a refused report is handed is free, and so is what second reports are
   reports : (p : FirstPass) (bs : List ℕ) (room : ℕ) →
-      ((h : ℕ) → first_check w.hub p (length bs) room ≡ Ok h → FairlyHeard w.line bs) →
-      Step w (first_report p bs room) (reported_world w bs (first_check w.hub p (length bs) room))
-  ends : (p : SecondPass) (bs : List ℕ) → Step w (second_report p bs) (ended_world w bs (second_check w.hub p (length bs)))
+      ((h : ℕ) → first_check w.hub p bs room ≡ Ok h → FairlyHeard w.line bs) →
+      Step w (first_report p bs room) (reported_world w bs (first_check w.hub p bs room))
+  ends : (p : SecondPass) (bs : List ℕ) → Step w (second_report p bs) (ended_world w bs (check second_of w.hub p bs))
   cuts : (p : FirstPass) (bs : List ℕ) (n : ℕ) →
-      ((h : ℕ) → cut_check w.hub p (length bs) ≡ Ok h → FairlyHeard w.line bs) →
-      Step w (cut p bs n) (cut_world w bs n (cut_check w.hub p (length bs)))
+      ((h : ℕ) → check first_of w.hub p bs ≡ Ok h → FairlyHeard w.line bs) →
+      Step w (cut p bs n) (cut_world w bs n (check first_of w.hub p bs))
   restarts : Step w restart (restarted_world w)
   -- A frame reaches its head once, as sent, and before its own report or the restart in its place; or never.
   poll_arrives : (h : ℕ) → w.line ≡ poll → served_by w.hub.slot ≡ Some h → Step w arrival (answered_world w h)

@@ -5,7 +5,7 @@
 ghost use Rattle.runs.specs.Law.{RunsKeepTheLaw};
 
 // How many own moves the head that is served may still make before its slot ends.
-#[derive(Clone, Copy)]
+#[derive(Clone, Copy, Debug, PartialEq, Eq)]
 pub enum Allowance {
     // any number: its poll has not arrived
     Free,

@@ -1,7 +1,6 @@
 -- What a bill is worth, by the mantissa and the exponent of its denomination.
 --
 --   right_pair m e     the exponent is at most 6, and 0 without a mantissa
---   checked_pair m e   the two, if they are right
 --   worth m e          mantissa × 10 to the exponent, nothing without a mantissa
 --
 -- Assumes nothing.
@@ -9,9 +8,6 @@ use Rattle.std.specs.Prelude.{ℕ, ◌*◌, ◌^◌, Bool, cond, ◌&&◌, ◌||
 
 abbrev pub right_pair : ℕ → ℕ → Bool
 right_pair m e = nat_le e 6 && (nat_lt 0 m || e == 0)
-
-abbrev pub checked_pair : ℕ → ℕ → Option (ℕ × ℕ)
-checked_pair m e = cond (right_pair m e) (Some (m, e)) None
 
 abbrev pub worth : ℕ → ℕ → Option ℕ
 worth m e = cond (m == 0) None (Some (m * 10 ^ e))

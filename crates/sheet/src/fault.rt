@@ -1,28 +1,19 @@
 // Why a sheet is refused. The number is part of the interface.
-ghost use Rattle.std.specs.Prelude.{◌≡◌};
 ghost use Rattle.sheet.specs.Sheets.{sheet_fault_number};
 
-use std::fmt;
+use number::Numbered;
+use thiserror::Error;
 
-#[derive(Clone, Copy, Debug, PartialEq, Eq)]
+#[derive(Clone, Copy, Debug, PartialEq, Eq, Error)]
 pub enum SheetFault {
+    #[error("{}: the sheet's limit, an exponent or a value without a mantissa is wrong", self.number())]
     SheetWrong = 14,
 }
 
-impl SheetFault {
-    pub fn number(self) -> u8
-        ensures { result ≡ sheet_fault_number self }
-    {
-        self as u8
-    }
-}
+impl Numbered for SheetFault {
+    ghost number_of = { sheet_fault_number };
 
-impl fmt::Display for SheetFault {
-    fn fmt<W: fmt::Write>(&self, f: &mut fmt::Formatter<W>) -> fmt::Result {
-        match self {
-            SheetFault::SheetWrong => f.write_str(
-                "14: the sheet's limit, an exponent or a value without a mantissa is wrong",
-            ),
-        }
+    fn number(&self) -> u8 {
+        *self as u8
     }
 }

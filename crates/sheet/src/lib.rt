@@ -6,7 +6,7 @@ mod fault;
 mod setting;
 mod sheet;
 
-pub use denomination::Denomination;
+pub use denomination::{Denomination, Pair};
 pub use fault::SheetFault;
 pub use setting::{SETTINGS, Setting};
-pub use sheet::{DENOMINATIONS, Draft, Pair, Sheet, values_are_amounts};
+pub use sheet::{DENOMINATIONS, Draft, Sheet, values_are_amounts};

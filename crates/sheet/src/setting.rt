@@ -10,7 +10,7 @@ use number::Number;
 pub const SETTINGS: usize = 4;
 
 // A setting with its data.
-#[derive(Clone, Copy)]
+#[derive(Clone, Copy, Debug, PartialEq, Eq)]
 pub enum Setting {
     EnableDenominations(Number<0xc0>, [u8; 2]),
     SecurityDenominations(Number<0xc1>, [u8; 2]),
@@ -19,6 +19,7 @@ pub enum Setting {
 }
 
 impl Setting {
+    // An arm for each case, since each code is a type of its own.
     pub fn command(&self) -> u8
         ensures { result ≡ (setting_content self.now).command }
     {
@@ -36,9 +37,9 @@ impl Setting {
         ensures few { length result.now ≤ 2 }
     {
         match self {
-            Setting::EnableDenominations(_, data) => data,
-            Setting::SecurityDenominations(_, data) => data,
-            Setting::OptionalFunction(_, data) => data,
+            Setting::EnableDenominations(_, data)
+            | Setting::SecurityDenominations(_, data)
+            | Setting::OptionalFunction(_, data) => data,
             Setting::Inhibit(_, data) => data,
         }
     }
@@ -49,12 +50,12 @@ impl Sheet {
     pub fn setting(&self, place: usize) -> Option<Setting>
         ensures { option_map setting_content result ≡ nth (settings_of self.now) place }
     {
-        match place {
-            0 => Some(Setting::EnableDenominations(Number, [self.enable, 0x00])),
-            1 => Some(Setting::SecurityDenominations(Number, [self.security, 0x00])),
-            2 => Some(Setting::OptionalFunction(Number, self.options)),
-            3 => Some(Setting::Inhibit(Number, [0x00])),
-            _ => None,
-        }
+        let settings: [Setting; SETTINGS] = [
+            Setting::EnableDenominations(Number, [self.enable, 0x00]),
+            Setting::SecurityDenominations(Number, [self.security, 0x00]),
+            Setting::OptionalFunction(Number, self.options),
+            Setting::Inhibit(Number, [0x00]),
+        ];
+        settings.get(place).copied()
     }
 }

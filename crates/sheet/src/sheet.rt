@@ -1,24 +1,17 @@
 // The sheet as it comes, and as it is kept once it was checked.
-ghost use Rattle.std.specs.Prelude.{◌≡◌};
-ghost use Rattle.sheet.specs.Sheets.{sheet_answer, told, value_of, is_enabled, limit_of, denominations_answer, told_denominations};
+ghost use Rattle.std.specs.Prelude.{◌≡◌, ◌<◌, IfSome};
+ghost use Rattle.sheet.specs.Sheets.{sheet_answer, told, value_of, is_enabled, limit_of, denominations_answer, place_of, told_denominations};
 ghost use Rattle.sheet.specs.Amounts.{ValuesAreAmounts};
 
-use crate::denomination::Denomination;
+use crate::denomination::{Denomination, Pair};
 use crate::fault::SheetFault;
 use orders::limit::Limit;
 
 // How many denomination codes there are: 61H to 68H.
 pub const DENOMINATIONS: usize = 8;
 
-// A mantissa and an exponent as they come.
-#[derive(Clone, Copy)]
-pub struct Pair {
-    pub mantissa: u8,
-    pub exponent: u8,
-}
-
 // A sheet as it comes: any bytes.
-#[derive(Clone, Copy)]
+#[derive(Clone, Copy, Debug, PartialEq, Eq)]
 pub struct Draft {
     // The number of slots within which the head's turn has to come.
     pub limit: u8,
@@ -31,7 +24,7 @@ pub struct Draft {
 }
 
 // A sheet that was checked.
-#[derive(Clone, Copy)]
+#[derive(Clone, Copy, Debug, PartialEq, Eq)]
 pub struct Sheet {
     limit: Limit,
     denominations: [Denomination; DENOMINATIONS],
@@ -41,29 +34,30 @@ pub struct Sheet {
 }
 
 fn check_denominations(
-    pairs: &[Pair; DENOMINATIONS],
+    pairs: [Pair; DENOMINATIONS],
 ) -> Result<[Denomination; DENOMINATIONS], SheetFault>
-    ensures { told_denominations result ≡ denominations_answer pairs.now }
+    ensures { told_denominations result ≡ denominations_answer pairs }
 {
-    let mut checked = [Denomination::UNASSIGNED; DENOMINATIONS];
-    for i in 0..DENOMINATIONS {
-        let pair = pairs[i];
-        match Denomination::new(pair.mantissa, pair.exponent) {
-            Some(denomination) => checked[i] = denomination,
-            None => return Err(SheetFault::SheetWrong),
-        }
+    pairs.try_map(Denomination::try_from)
+}
+
+// The place of a bill's code among the denominations.
+fn place_of(code: u8) -> Option<usize>
+    ensures place { result ≡ place_of code }
+    ensures within { IfSome result (λ place. place < DENOMINATIONS) }
+{
+    match code {
+        0x61..=0x68 => Some(usize::from(code - 0x61)),
+        _ => None,
     }
-    Ok(checked)
 }
 
 impl Sheet {
     pub fn check(draft: &Draft) -> Result<Sheet, SheetFault>
         ensures { told result ≡ sheet_answer draft.now }
     {
-        let Some(limit) = Limit::new(draft.limit) else {
-            return Err(SheetFault::SheetWrong);
-        };
-        let denominations = check_denominations(&draft.denominations)?;
+        let limit = Limit::new(draft.limit).ok_or(SheetFault::SheetWrong)?;
+        let denominations = check_denominations(draft.denominations)?;
         Ok(Sheet {
             limit,
             denominations,
@@ -83,20 +77,14 @@ impl Sheet {
     pub fn value(&self, code: u8) -> Option<u32>
         ensures { result ≡ value_of self.now code }
     {
-        match code {
-            0x61..=0x68 => self.denominations[(code - 0x61) as usize].value(),
-            _ => None,
-        }
+        self.denominations[place_of(code)?].value()
     }
 
     // Whether bills of this code are taken; of codes other than 61H to 68H none is.
     pub fn is_enabled(&self, code: u8) -> bool
         ensures { result ≡ is_enabled self.now code }
     {
-        match code {
-            0x61..=0x68 => self.enable >> (code - 0x61) & 1 == 0,
-            _ => false,
-        }
+        place_of(code).is_some_and(|place| self.enable >> place & 1 == 0)
     }
 }
 

@@ -6,7 +6,8 @@ ghost use Rattle.std.specs.Option.{option_to_list};
 ghost use Rattle.status.specs.Statuses.{status_answer, status_byte, status_data, status_fault_number, told};
 
 use codes::{BareCode, DetailedCode, StatusCode};
-use std::fmt;
+use number::Numbered;
+use thiserror::Error;
 
 // A status with the data that its code has: no value has a code, or a number of data bytes, outside the table.
 #[derive(Clone, Copy, Debug, PartialEq, Eq)]
@@ -21,8 +22,8 @@ impl Status {
         ensures { result ≡ status_byte self }
     {
         match self {
-            Status::Bare(code) => code.byte(),
-            Status::Detailed(code, _) => code.byte(),
+            Status::Bare(code) => code.into(),
+            Status::Detailed(code, _) => code.into(),
         }
     }
 
@@ -38,44 +39,33 @@ impl Status {
 }
 
 // Why a message is no status. The numbers are part of the interface.
-#[derive(Clone, Copy, Debug, PartialEq, Eq)]
+#[derive(Clone, Copy, Debug, PartialEq, Eq, Error)]
 pub enum StatusFault {
+    #[error("{}: the code is no status", self.number())]
     UnknownCode = 8,
+    #[error("{}: the status has another number of data bytes", self.number())]
     WrongDataCount = 9,
+    #[error("{}: the head answers that it could not take what was sent", self.number())]
     Complaint = 10,
 }
 
-impl StatusFault {
-    pub fn number(self) -> u8
-        ensures { result ≡ status_fault_number self }
-    {
-        self as u8
+impl Numbered for StatusFault {
+    ghost number_of = { status_fault_number };
+
+    fn number(&self) -> u8 {
+        *self as u8
     }
 }
 
-impl fmt::Display for StatusFault {
-    fn fmt<W: fmt::Write>(&self, f: &mut fmt::Formatter<W>) -> fmt::Result {
-        let text = match self {
-            StatusFault::UnknownCode => "8: the code is no status",
-            StatusFault::WrongDataCount => "9: the status has another number of data bytes",
-            StatusFault::Complaint => "10: the head answers that it could not take what was sent",
-        };
-        f.write_str(text)
-    }
-}
-
+#[tactic(auto, using(crate::proofs::Counted::bare, crate::proofs::Counted::detailed))]
 pub fn read(command: u8, data: &[u8]) -> Result<Status, StatusFault>
     ensures { told result ≡ status_answer command «data».now }
 {
-    let Some(code) = StatusCode::from_byte(command) else {
-        return Err(StatusFault::UnknownCode);
-    };
-    if data.len() != code.data_count() {
-        return Err(StatusFault::WrongDataCount);
-    }
-    match code {
-        StatusCode::Bare(code) => Ok(Status::Bare(code)),
-        StatusCode::Detailed(code) => Ok(Status::Detailed(code, data[0])),
-        StatusCode::Complaint(_) => Err(StatusFault::Complaint),
+    let code = StatusCode::try_from(command).map_err(|_| StatusFault::UnknownCode)?;
+    match (code, data) {
+        (StatusCode::Bare(code), []) => Ok(Status::Bare(code)),
+        (StatusCode::Detailed(code), [detail]) => Ok(Status::Detailed(code, *detail)),
+        (StatusCode::Complaint(_), []) => Err(StatusFault::Complaint),
+        _ => Err(StatusFault::WrongDataCount),
     }
 }

@@ -1,5 +1,5 @@
 -- Every call keeps an order within the slacks in being. Assumes nothing.
-use Rattle.std.proofs.Common.{◌≡◌, ℕ, zero, suc, ◌-◌, ◌<◌, ◌≤◌, true, false, leb, map, length, replicate, is_some, Some, None, Option, sym, refl, ap, ◌∙◌, subst, ⊎_elim, arith}
+use Rattle.std.proofs.Common.{◌≡◌, ℕ, zero, suc, ◌-◌, ◌<◌, ◌≤◌, true, false, leb, map, length, get_or, replicate, is_some, Some, None, Option, sym, refl, ap, ◌∙◌, subst, ⊎_elim, arith}
 use Rattle.std.proofs.lemmas.Bool.{false≢true, leb-true, cases_Bool}
 use Rattle.std.proofs.lemmas.List.{get_or-set_same, length-set, length-map}
 use Rattle.orders.specs.declared.limit.Limit.{Limit}
@@ -7,24 +7,24 @@ use Rattle.orders.specs.declared.turn.Turn.{Turn}
 use Rattle.orders.specs.Tables.{Table, turn_of, is_admitted, limit_in, slack_in, head_count, empty_table, without_head, with_head}
 use Rattle.orders.specs.Orders.{fits_limits}
 use Rattle.orders.specs.Counts.{slack_within, StartCounts}
-use Rattle.orders.specs.Slots.{served, lowered, restored}
+use Rattle.orders.specs.Slots.{served, lowered_turn, lowered, restored}
 use Rattle.orders.proofs.Lists.{one}
 use Rattle.orders.proofs.Keeps.{Keeps, counts_of, order_of}
-use Rattle.orders.proofs.Changes.{inside, count_set, at_set, count_without_head, at_without, some_with, limit_with, slack_lowered, slack_restored, count_served, within_served, at_served, within_le_count, fits_each, each_fits}
+use Rattle.orders.proofs.Changes.{inside, count_set, at_set, count_without_head, at_without, some_mapped, limit_with, slack_lowered, slack_restored, count_served, within_served, at_served, within_le_count, fits_each, each_fits}
 
 -- ---- no head
-turn_empty : (n h : ℕ) → turn_of (replicate n None) h ≡ None
-turn_empty zero h = refl
-turn_empty (suc n) zero = refl
-turn_empty (suc n) (suc h) = turn_empty n h
+pub none_replicated : {X : Type 0} (n h : ℕ) → get_or {A = Option X} (replicate n None) h None ≡ None
+none_replicated zero h = refl
+none_replicated (suc n) zero = refl
+none_replicated (suc n) (suc h) = none_replicated n h
 
 pub not_in_empty : (h : ℕ) → is_admitted empty_table h ≡ false
-not_in_empty h = ap is_some (turn_empty 14 h)
+not_in_empty h = ap is_some (none_replicated 14 h)
 
 pub empty_keeps : Keeps empty_table
 empty_keeps = (
   order_of empty_table (λ k. omega arith),
-  (refl, λ h. omega (arith, ap slack_in (turn_empty 14 h)), refl),
+  (refl, λ h. omega (arith, ap slack_in (none_replicated 14 h)), refl),
 )
 
 -- ---- dismissal
@@ -61,7 +61,7 @@ with_head_keeps t h l (order, (old, slacks, long)) lt out fits =
           (cases_Bool (leb l.value k))),
       (
         fits,
-        at_set (λ e. slack_in e ≤ limit_in e) t h new lt (omega arith) (λ g ne. slacks g),
+        at_set (λ _ e. slack_in e ≤ limit_in e) t h new lt (omega arith) (λ g ne. slacks g),
         length-set t h new ∙ long,
       ),
     )
@@ -87,7 +87,7 @@ served_keeps t h (order, (fits, slacks, long)) (in', positive, counts) =
         each_fits (served t h)
             (at_served t h lt (λ e. is_some e ≡ true → head_count (served t h) ≤ limit_in e)
             (λ _. omega (arith, limit_with (λ turn. turn.limit.value) (turn_of t h), fits_each t fits h in'))
-            (λ g ne some. omega (arith, limit_with (λ turn. turn.slack - 1) (turn_of t g), fits_each t fits g (sym (some_with (λ turn. turn.slack - 1) (turn_of t g)) ∙ some)))),
+            (λ g ne some. omega (arith, limit_with (λ turn. turn.slack - 1) (turn_of t g), fits_each t fits g (sym (some_mapped lowered_turn (turn_of t g)) ∙ some)))),
         at_served t h lt (λ e. slack_in e ≤ limit_in e)
             (omega (arith, slack_restored (turn_of t h), limit_with (λ turn. turn.limit.value) (turn_of t h)))
             (λ g ne. omega (arith, slack_lowered (turn_of t g), limit_with (λ turn. turn.slack - 1) (turn_of t g), slacks g)),

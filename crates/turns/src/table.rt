@@ -8,13 +8,12 @@ ghost use Rattle.orders.specs.Slots.{after_serving};
 
 use super::fault::{AdmissionFault, DismissalFault};
 use orders::limit::Limit;
-use orders::places::{after_slot, fits_limits, leaves_first, smallest_slack};
+use orders::places::{HEADS, Places, after_slot, fits_limits, leaves_first, smallest_slack};
 use orders::turn::Turn;
 
 #[derive(Drop)]
 pub struct TurnTable {
-    // Head h's turn stands at place h, None where the head is not admitted.
-    heads: [Option<Turn>; 14],
+    heads: Places,
     // Some order keeps every head within its slack, so there is always a head whose turn may come next.
     ghost ordered: { ∥ SomeOrder heads ∥₁ },
     // The heads outnumber no limit, so a head just served still fits in; and no slack is above its limit.
@@ -26,17 +25,20 @@ impl TurnTable {
     pub fn new() -> TurnTable
         ensures { result.heads ≡ empty_table }
     {
-        TurnTable { heads: [None; 14] }
+        TurnTable {
+            heads: [None; HEADS],
+        }
     }
 
     // Whether this number could be admitted, whatever its limit: 12 and 13 are refused here, 15 by `admit` alone.
     pub fn check_number(&self, number: u8) -> Result<(), AdmissionFault>
         ensures { result ≡ number_answer self.now.heads number }
     {
-        if number > 13 {
-            return Err(AdmissionFault::NumberOver13);
-        }
-        if self.heads[number as usize].is_some() {
+        let place = self
+            .heads
+            .get(usize::from(number))
+            .ok_or(AdmissionFault::NumberOver13)?;
+        if place.is_some() {
             return Err(AdmissionFault::AdmittedAlready);
         }
         Ok(())
@@ -49,10 +51,7 @@ impl TurnTable {
     {
         self.check_number(number)?;
         let mut joined = self.heads;
-        joined[number as usize] = Some(Turn {
-            limit,
-            slack: limit.value(),
-        });
+        joined[usize::from(number)] = Some(Turn::new(limit));
         if !fits_limits(&joined) {
             return Err(AdmissionFault::Outnumbered);
         }
@@ -64,14 +63,12 @@ impl TurnTable {
         ensures answer { result ≡ dismissal_answer self.old.heads number }
         ensures after { self.new.heads ≡ after_dismissal self.old.heads number }
     {
-        if number > 13 {
-            return Err(DismissalFault::NumberOver13);
-        }
-        let place = self.heads[number as usize];
-        if place.is_none() {
-            return Err(DismissalFault::NotAdmitted);
-        }
-        self.heads[number as usize] = None;
+        let place = self
+            .heads
+            .get(usize::from(number))
+            .ok_or(DismissalFault::NumberOver13)?;
+        place.ok_or(DismissalFault::NotAdmitted)?;
+        self.heads[usize::from(number)] = None;
         Ok(())
     }
 
@@ -86,21 +83,19 @@ impl TurnTable {
     pub fn is_empty(&self) -> bool
         ensures { result ≡ is_empty self.now.heads }
     {
-        smallest_slack(&self.heads).is_none()
+        self.heads.iter().all(Option::is_none)
     }
 
     // Whether some order that keeps every head within its slack starts with this head.
     pub fn can_start(&self, head: u8) -> bool
         ensures { Decides result (SomeOrderFrom self.now.heads head) }
     {
-        if head > 13 {
+        let place = usize::from(head);
+        if !self.heads.get(place).is_some_and(Option::is_some) {
             return false;
         }
         let mut others = self.heads;
-        if others[head as usize].is_none() {
-            return false;
-        }
-        others[head as usize] = None;
+        others[place] = None;
         leaves_first(&others)
     }
 

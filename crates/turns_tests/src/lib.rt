@@ -4,20 +4,16 @@
 #[cfg(test)]
 mod tests {
     use orders::limit::Limit;
-    use std::process::Abort;
     use std::test::Fail;
     use turns::fault::{AdmissionFault, DismissalFault};
     use turns::table::TurnTable;
 
     // Admits heads 0, 1, .. with these limits.
-    fn with_limits(rt: &impl Abort, limits: &[u8]) -> Result<TurnTable, Fail> {
+    fn with_limits(limits: &[u8]) -> Result<TurnTable, Fail> {
         let mut table = TurnTable::new();
         for (number, value) in limits.iter().enumerate() {
-            assert!(rt; number < 14);
-            let Some(limit) = Limit::new(*value) else {
-                return Err(Fail::new("not a limit"));
-            };
-            table.admit(number as u8, limit)?;
+            let limit = Limit::new(*value).ok_or_else(|| Fail::new("not a limit"))?;
+            table.admit(u8::try_from(number)?, limit)?;
         }
         Ok(table)
     }
@@ -50,11 +46,11 @@ mod tests {
 
     #[test]
     fn three_heads_take_turns(rt: HostRuntime) -> Result<(), Fail> {
-        let mut table = with_limits(&rt, &[3, 3, 3])?;
+        let mut table = with_limits(&[3, 3, 3])?;
         let wishes = [0, 0, 1, 2, 1];
         let served = [0, 1, 2, 0, 1];
-        for i in 0..5usize {
-            assert_eq!(rt; table.serve(wishes[i]), Some(served[i]));
+        for (wish, head) in wishes.iter().zip(served) {
+            assert_eq!(rt; table.serve(*wish), Some(head));
         }
         Ok(())
     }

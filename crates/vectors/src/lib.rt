@@ -4,6 +4,8 @@
 ghost use Rattle.vectors.specs.WorkedCases.{WorkedCases};
 
 #[cfg(test)]
+mod faults;
+#[cfg(test)]
 mod line;
 
 // The worked cases of the line, proved together by computing them.

@@ -1,7 +1,7 @@
 // The frames and the register trace that the text of ID-003 prints, and each refusal of the line at its edge.
 use frame::{FrameFault, WriteFault};
 use message::hear;
-use status::StatusFault;
+use number::Numbered;
 use std::test::Fail;
 
 const POLL: [u8; 5] = [0xfc, 0x05, 0x11, 0x27, 0x56];
@@ -26,7 +26,7 @@ fn printed_frames_are_written(rt: HostRuntime) {
 }
 
 fn command_at(bytes: &[u8], place: usize) -> Result<u8, FrameFault> {
-    Ok(frame::read(bytes, place)?.command)
+    frame::read(bytes, place).map(|frame| frame.command)
 }
 
 #[test]
@@ -36,7 +36,7 @@ fn printed_frames_are_read(rt: HostRuntime) {
 }
 
 #[test]
-fn reading_refuses_at_its_edges(rt: HostRuntime) -> Result<(), Fail> {
+fn reading_refuses_at_its_edges(rt: HostRuntime) {
     let cases: [(&[u8], usize, u8); 9] = [
         (&[], 0, 1),
         (&POLL, 1, 1),
@@ -49,12 +49,9 @@ fn reading_refuses_at_its_edges(rt: HostRuntime) -> Result<(), Fail> {
         (&[0xfc, 0x05, 0x11, 0x26, 0x56], 0, 5),
     ];
     for (bytes, place, number) in cases {
-        match frame::read(bytes, place) {
-            Ok(_) => return Err(Fail::new("read")),
-            Err(fault) => assert_eq!(rt; fault.number(), number),
-        }
+        let refusal = command_at(bytes, place).map_err(|fault| fault.number());
+        assert_eq!(rt; refusal, Err(number));
     }
-    Ok(())
 }
 
 #[test]
@@ -79,44 +76,38 @@ fn writing_refuses_at_its_edges(rt: HostRuntime) {
 
 #[test]
 fn the_smallest_place_is_heard(rt: HostRuntime) -> Result<(), Fail> {
-    match hear(&[
+    let heard = hear(&[
         0x00, 0xfc, 0x05, 0x50, 0xaa, 0x05, 0xfc, 0x05, 0x11, 0x27, 0x56,
-    ]) {
-        Ok(heard) => {
-            assert_eq!(rt; heard.place, 1);
-            assert_eq!(rt; heard.message.command(), 0x50);
-            Ok(())
-        }
-        Err(_) => Err(Fail::new("nothing heard")),
-    }
+    ])
+    .map_err(|_| Fail::new("nothing heard"))?;
+    assert_eq!(rt; heard.place, 1);
+    assert_eq!(rt; heard.message.command(), 0x50);
+    Ok(())
 }
 
-// A status by its number of data bytes, or the number of the refusal.
+// The code of a status with its number of data bytes, or the number of the refusal.
 #[test]
 fn statuses_read_or_refuse(rt: HostRuntime) {
-    let cases: [(u8, &[u8], u8); 14] = [
-        (0x11, &[], 0),
-        (0x11, &[0x00], 9),
-        (0x13, &[0x61], 0),
-        (0x13, &[0x00], 0),
-        (0x13, &[], 9),
-        (0x13, &[0x61, 0x62], 9),
-        (0x49, &[0xff], 0),
-        (0x48, &[0xff], 9),
-        (0x19, &[], 8),
-        (0x4a, &[], 10),
-        (0x4b, &[], 10),
-        (0x4b, &[0x00], 9),
-        (0x4c, &[], 8),
-        (0x50, &[], 8),
+    let cases: [(u8, &[u8], Result<u8, u8>); 14] = [
+        (0x11, &[], Ok(0x11)),
+        (0x11, &[0x00], Err(9)),
+        (0x13, &[0x61], Ok(0x13)),
+        (0x13, &[0x00], Ok(0x13)),
+        (0x13, &[], Err(9)),
+        (0x13, &[0x61, 0x62], Err(9)),
+        (0x49, &[0xff], Ok(0x49)),
+        (0x48, &[0xff], Err(9)),
+        (0x19, &[], Err(8)),
+        (0x4a, &[], Err(10)),
+        (0x4b, &[], Err(10)),
+        (0x4b, &[0x00], Err(9)),
+        (0x4c, &[], Err(8)),
+        (0x50, &[], Err(8)),
     ];
-    for (code, data, number) in cases {
-        match status::read(code, data) {
-            Ok(status) => {
-                assert_eq!(rt; number, 0);
-                assert_eq!(rt; status.code(), code);
-            }
-            Err(fault) => assert_eq!(rt; fault.number(), number),
-        }
+    for (code, data, wanted) in cases {
+        let read = status::read(code, data)
+            .map(|status| status.code())
+            .map_err(|fault| fault.number());
+        assert_eq!(rt; read, wanted);
     }
 }

@@ -1,6 +1,6 @@
-use Rattle.std.proofs.Common.{◌≡◌, ◌+◌, ◌*◌, take}
-use Rattle.drawer_fresh.specs.Fresh.{repeated, fresh_section}
+use Rattle.std.proofs.Common.{◌≡◌, take}
+use Rattle.drawer_fresh.specs.Fresh.{fresh_bytes}
 use Rattle.drawer_fresh.proofs.write_fresh.Given as goal
 
-abbrev pub invariant-loop-head : goal.invariant-loop-head
-invariant-loop-head l = take (7 * ((l.bills + 1) * l.head)) l.bytes ≡ repeated l.head (fresh_section l.bills)
+abbrev pub invariant-loop-place : goal.invariant-loop-place
+invariant-loop-place l = take l.place l.bytes ≡ take l.place (fresh_bytes l.bills)

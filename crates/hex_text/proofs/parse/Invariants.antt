@@ -1,6 +1,6 @@
-use Rattle.std.proofs.Common.{◌≡◌, ◌*◌, ◌∷◌, take, vec_items}
-use Rattle.hex_text.specs.Spelled.{Bytes, blanked}
+use Rattle.std.proofs.Common.{◌≡◌, vec_items, map}
+use Rattle.hex_text.specs.Spelled.{Bytes, pair}
 use Rattle.hex_text.proofs.parse.Given as goal
 
-abbrev pub invariant-loop-k : goal.invariant-loop-k
-invariant-loop-k l = Bytes (vec_items l.bytes) × (take (3 * l.k) (32 ∷ l.line) ≡ blanked (vec_items l.bytes))
+abbrev pub invariant-loop-group : goal.invariant-loop-group
+invariant-loop-group l = record { fit : Bytes (vec_items l.bytes); read : map (λ g. g.now) l.yielded ≡ map pair (vec_items l.bytes) }

@@ -1,13 +1,10 @@
-use Rattle.std.proofs.Common.{◌≡◌, ◌+◌, drop, sym, refl, ap, ◌∙◌, subst, arith}
+use Rattle.std.proofs.Common.{◌≡◌, ℕ, ◌+◌, Bool, cond, drop, sym, ap, ◌∙◌, subst, arith}
 use Rattle.ledger.specs.Held.{Heads}
 use Rattle.ledger_calls.specs.Calls.{after_all}
 use Rattle.ledger_calls.specs.Books.{journal, accepted_in, Balanced}
 use Rattle.ledger_calls.proofs.Balances.{one_if_ok, balanced, refused_calls_leave_no_trace, turn_after, turn_accepted, last_after, last_accepted}
 use Rattle.ledger_calls.proofs.make_calls.Goals as goal
-use Rattle.ledger_calls.proofs.make_calls.Goals.{in-Ok, in_default}
-
-pub loop-it-init : goal.loop-it-init
-loop-it-init g c = (omega arith, omega arith, refl, g.L.Ledger.stays c.args.ledger.now)
+use Rattle.ledger_calls.proofs.make_calls.Goals.{then-is_ok, else-is_ok}
 
 pub loop-it-preserved : goal.loop-it-preserved
 loop-it-preserved g c =
@@ -19,11 +16,13 @@ loop-it-preserved g c =
     let lt = c.loop-it-test.true in
     let made = c.make_call.ensures in
     let counted : accepted_in (journal (held before) (drop i calls)) ≡ one_if_ok c.make_call.result + accepted_in (journal (held since) (drop (i + 1) calls)) =
-    turn_accepted (held before) (held since) _ c.make_call.result calls i lt made.answer made.after in (
-      elim c.match-make_call.branch [ in-Ok w ↦ omega (arith, w.accepted-is) | in_default w ↦ omega (arith, w.accepted-is) ],
-      elim c.match-make_call.branch [
-        | in-Ok w ↦ omega (arith, w.accepted-is, ap one_if_ok w.in-Ok.is)
-        | in_default w ↦ omega (arith, w.accepted-is, ap one_if_ok w.in_default.is)
+    turn_accepted (held before) (held since) _ c.make_call.result calls i lt made.answer made.after in
+    let number : Bool → ℕ = λ b. cond b 1 0 in
+    let one : one_if_ok c.make_call.result ≡ number c.is_ok.result = ap number (sym c.is_ok.ensures.value) in (
+      elim c.if-is_ok.branch [ then-is_ok w ↦ omega (arith, w.accepted-is) | else-is_ok w ↦ omega (arith, w.accepted-is) ],
+      elim c.if-is_ok.branch [
+        | then-is_ok w ↦ omega (arith, w.accepted-is, ap number w.if-is_ok.true)
+        | else-is_ok w ↦ omega (arith, w.accepted-is, ap number w.if-is_ok.false)
       ],
       turn_after (held before) (held since) calls i lt made.after ∙ c.loop-it.invariant.2,
       g.L.Ledger.joins c.args.ledger.now before since c.loop-it.invariant.3 made.kept,

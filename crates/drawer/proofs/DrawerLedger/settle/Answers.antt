@@ -1,46 +1,64 @@
-use Rattle.std.proofs.Common.{◌+◌, ◌-◌, length, sym, refl, ap, ◌∙◌, subst, arith}
-use Rattle.drawer_image.specs.Sections.{promise_of}
+use Rattle.std.proofs.Common.{◌≡◌, ◌+◌, ◌-◌, Some, length, sym, refl, ap, ◌∙◌, subst, ap₂, arith, rules}
+use Rattle.drawer_image.specs.declared.section.Section.{Section}
 use Rattle.drawer_image.specs.Checks.{Passes}
 use Rattle.drawer.specs.Meaning.{bytes_held}
 use Rattle.drawer.specs.Writes.{put_amount, put_settled}
 use Rattle.drawer.proofs.Puts.{length_settled}
-use Rattle.drawer.proofs.Calls.{indexed}
-use Rattle.drawer.proofs.Accepted.{read_some, read_places, read_next, read_settling, settle_call}
+use Rattle.drawer.proofs.Calls.{IsOpened, opened}
+use Rattle.drawer.proofs.Accepted.{held_places, held_next, held_settling, settle_call}
 use Rattle.drawer.proofs.DrawerLedger.settle.Goals as goal
 
 pub overflow_sub-next : goal.overflow_sub-next
-overflow_sub-next c = (read_next c.args.self.now.bytes.now c.args.self.now.bills c.args.head c.section-held.result c.section-held.ensures c.if-held-eq0.false).within
+overflow_sub-next c =
+    let bs = c.args.self.now.bytes.now in
+    let k = c.args.self.now.bills in
+    let h = c.args.head in
+    let read : IsOpened bs k h c.in_ok-promise.promise c.in_ok-promise.held = search rules in
+    let o = opened bs k h c.in_ok-promise.promise c.in_ok-promise.held read in
+    let read_amount : c.in_ok-promise.held.promised ≡ Some c.in_ok-amount.amount = search rules in
+    let held = ap (λ (x : Section). x.promised) (sym o.2) ∙ read_amount in
+    omega (arith, ap (λ (x : Section). x.free) o.2, (held_next bs k h c.in_ok-amount.amount held).within)
 
 pub put_settled-requires : goal.put_settled-requires
 put_settled-requires c =
+    let bs = c.args.self.now.bytes.now in
     let k = c.args.self.now.bills in
-    let n = read_next c.args.self.now.bytes.now k c.args.head c.section-held.result c.section-held.ensures c.if-held-eq0.false in
-    let e = ap (promise_of k) (indexed c.args.head c.in_ok-index.index c.in_ok-index.ensures).1 in
-    omega (arith, n.room)
+    let h = c.args.head in
+    let read : IsOpened bs k h c.in_ok-promise.promise c.in_ok-promise.held = search rules in
+    let o = opened bs k h c.in_ok-promise.promise c.in_ok-promise.held read in
+    let read_amount : c.in_ok-promise.held.promised ≡ Some c.in_ok-amount.amount = search rules in
+    let held = ap (λ (x : Section). x.promised) (sym o.2) ∙ read_amount in
+    omega (arith, o.1, ap (λ (x : Section). x.free) o.2, (held_next bs k h c.in_ok-amount.amount held).room)
 
 pub put_amount-requires : goal.put_amount-requires
 put_amount-requires c =
+    let bs = c.args.self.now.bytes.now in
     let k = c.args.self.now.bills in
-    let p = read_places c.args.self.now.bytes.now k c.args.head c.section-held.result c.section-held.ensures c.if-held-eq0.false in
-    let e = ap (promise_of k) (indexed c.args.head c.in_ok-index.index c.in_ok-index.ensures).1 in
-    let long = ap length c.put_settled.ensures ∙ length_settled c.args.self.now.bytes.now _ _ in
-    omega (arith, p.room, long)
+    let h = c.args.head in
+    let read : IsOpened bs k h c.in_ok-promise.promise c.in_ok-promise.held = search rules in
+    let o = opened bs k h c.in_ok-promise.promise c.in_ok-promise.held read in
+    let read_amount : c.in_ok-promise.held.promised ≡ Some c.in_ok-amount.amount = search rules in
+    let held = ap (λ (x : Section). x.promised) (sym o.2) ∙ read_amount in
+    let long = ap length c.put_settled.ensures ∙ length_settled bs _ _ in
+    omega (arith, o.1, (held_places bs k h c.in_ok-amount.amount held).room, long)
 
 pub returns : goal.returns
 returns c =
     let bs = c.args.self.now.bytes.now in
     let k = c.args.self.now.bills in
     let h = c.args.head in
-    let s = c.section-held.result in
-    let ne = c.if-held-eq0.false in
-    let p = read_places bs k h s c.section-held.ensures ne in
-    let i = indexed h c.in_ok-index.index c.in_ok-index.ensures in
-    let call = settle_call bs k h i.0 (read_some bs k h s c.section-held.ensures ne) in
+    let read : IsOpened bs k h c.in_ok-promise.promise c.in_ok-promise.held = search rules in
+    let o = opened bs k h c.in_ok-promise.promise c.in_ok-promise.held read in
+    let read_amount : c.in_ok-promise.held.promised ≡ Some c.in_ok-amount.amount = search rules in
+    let held = ap (λ (x : Section). x.promised) (sym o.2) ∙ read_amount in
+    let a = c.in_ok-amount.amount in
+    let p = held_places bs k h a held in
+    let call = settle_call bs k h a o.0 held in
     let bytes =
     c.put_amount.ensures
-    ∙ ap (λ x. put_amount x (promise_of k c.in_ok-index.index) 0) c.put_settled.ensures
-    ∙ ap (λ x. put_amount (put_settled bs (promise_of k x + (k - s.free) + 1) s.promised) (promise_of k x) 0) i.1
-    ∙ read_settling bs k h s c.section-held.ensures ne in
+    ∙ ap (λ x. put_amount x c.in_ok-promise.promise 0) c.put_settled.ensures
+    ∙ ap₂ (λ x (s : Section). put_amount (put_settled bs (x + (k - s.free) + 1) a) x 0) o.1 o.2
+    ∙ held_settling bs k h a held in
     record {
       answer = sym call.0;
       after = ap (λ x. bytes_held x k) bytes ∙ call.1;

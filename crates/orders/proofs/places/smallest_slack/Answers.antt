@@ -1,28 +1,26 @@
-use Rattle.std.proofs.Common.{◌≡◌, ℕ, suc, ◌<◌, ◌≤◌, length, drop, None, Option, sym, ap, ◌∙◌, add-one, arith, drop-cons}
+use Rattle.std.proofs.Common.{◌≡◌, ℕ, ◌+◌, [], ◌∷◌, length, None, Option, sym, refl, ap, ◌∙◌, add-one, rules, tests}
 use Rattle.std.specs.Option.{option_map}
-use Rattle.std.proofs.lemmas.List.{at_drop_all}
+use Rattle.std.specs.List.{fold, range_with_len, zip}
+use Rattle.std.proofs.lemmas.Iterator.{YieldsList-from_range, YieldsList-from_slice, YieldsList-from_zip}
+use Rattle.std.proofs.lemmas.Iterator.Consumers.{fold_from_yields_List, YieldsList-at}
+use Rattle.orders.specs.declared.turn.Turn.{Turn}
 use Rattle.orders.specs.Tables.{Table}
-use Rattle.orders.specs.Choice.{smallest_from}
+use Rattle.orders.specs.Choice.{smaller, smallest_from}
 use Rattle.orders.proofs.places.smallest_slack.Goals as goal
 
-pub loop-i-preserved : goal.loop-i-preserved
-loop-i-preserved c =
+abbrev better : Option (ℕ × ℕ) → ℕ × Option Turn → Option (ℕ × ℕ)
+better found (h, place) = smaller found h place
+
+fold_is : (t : Table) (i : ℕ) (found : Option (ℕ × ℕ)) → fold better found (zip (range_with_len i (length t)) t) ≡ smallest_from found i t
+fold_is [] i found = refl
+fold_is (place ∷ t) i found =
+    fold_is t (i + 1) (smaller found i place) ∙ ap (λ n. smallest_from (smaller found i place) n t) (add-one i)
+
+pub returns : goal.returns
+returns c =
     let t = c.args.places.now in
-    let i = c.loop-i.i in
-    let here : i < length t = omega arith in
-    ap (λ n. smallest_from c.smaller_slack-found.result n (drop n t)) (add-one i)
-    ∙ ap (λ found. smallest_from found (suc i) (drop (suc i) t)) c.smaller_slack-found.ensures
-    ∙ sym (ap (smallest_from c.loop-i.found i) (drop-cons t i c.index-places-i.result here))
-    ∙ c.loop-i.invariant
-
--- with no place left, what was found is the answer
-found_all : (t : Table) (i : ℕ) (found : Option (ℕ × ℕ)) → length t ≤ i → smallest_from found i (drop i t) ≡ smallest_from None 0 t → found ≡ smallest_from None 0 t
-found_all t i found all inv = sym (at_drop_all (smallest_from found i) t i all) ∙ inv
-
-pub returns-in-Some : goal.returns-in-Some
-returns-in-Some c =
-    ap (option_map (λ best. best.0)) (sym c.in-Some.is ∙ found_all c.args.places.now c.loop-i.i c.loop-i.found (omega arith) c.loop-i.invariant)
-
-pub returns-in-None : goal.returns-in-None
-returns-in-None c =
-    ap (option_map (λ best. best.0)) (sym c.in-None.is ∙ found_all c.args.places.now c.loop-i.i c.loop-i.found (omega arith) c.loop-i.invariant)
+    let all = YieldsList-from_zip (YieldsList-at c.zip.ensures.first (YieldsList-from_range 0 14 (length t) refl (sym c.told-places))) (YieldsList-from_slice t c.zip.ensures.second.0) in
+    let best : c.fold.result ≡ fold better None (zip (range_with_len 0 (length t)) t) =
+    fold_from_yields_List _ better None c.fold.result c.fold.ensures.ran all (λ a x b q k. search (rules, tests)) in
+    let number : c.map.result ≡ option_map (λ best. best.0) c.fold.result = search rules in
+    number ∙ ap (option_map (λ best. best.0)) (best ∙ fold_is t 0 None)

@@ -1,6 +1,6 @@
-use Rattle.std.proofs.Common.{◌≡◌, ℕ, true, set, is_ok, Some, sym, ap, ◌∙◌, subst, arith}
-use Rattle.orders.specs.Tables.{Table}
+use Rattle.std.proofs.Common.{◌≡◌, true, set, is_ok, Some, sym, ap, ◌∙◌, subst, arith}
 use Rattle.orders.specs.Orders.{fits_limits}
+use Rattle.orders.specs.Tables.{with_head}
 use Rattle.orders.proofs.Keeps.{Keeps}
 use Rattle.turns.proofs.Invariant.{with_head_keeps}
 use Rattle.turns.proofs.Outcomes.{number_accepted}
@@ -8,14 +8,13 @@ use Rattle.turns.proofs.table.TurnTable.admit.Goals as goal
 
 pub invariant_of-self : goal.invariant_of-self
 invariant_of-self c =
-    let t = c.args.self.now.heads in
+    let table = c.args.self.now in
+    let t = table.heads in
     let h = c.args.number in
-    let limit = c.args.limit in
-    let with' : ℕ → Table = λ slack. set t h (Some (record { limit = limit; slack = slack })) in
+    let joined : set t c.from.result (Some c.new.result) ≡ with_head t h c.args.limit = ap (λ i. set t i (Some c.new.result)) c.from.ensures ∙ ap (λ turn. set t h (Some turn)) c.new.ensures in
     let free = number_accepted t h (ap is_ok (sym c.check_number.ensures ∙ c.in_ok-check_number.was)) in
-    let fits : fits_limits (with' limit.value) ≡ true =
-    subst (λ slack. fits_limits (with' slack) ≡ true) c.value.ensures (sym c.if-not-fits_limits.ensures) in
-    let keeps : Keeps (with' c.value.result) =
-    subst (λ slack. Keeps (with' slack)) (sym c.value.ensures)
-    (with_head_keeps t h limit (c.args.self.now.ordered, c.args.self.now.bounded) (omega (arith, c.args.self.now.bounded.2)) free.1 fits) in
+    let fits : fits_limits (with_head t h c.args.limit) ≡ true = ap fits_limits (sym joined) ∙ sym c.if-not-fits_limits.ensures in
+    let keeps =
+    subst Keeps (sym joined)
+    (with_head_keeps t h c.args.limit (table.ordered, table.bounded) (omega (arith, table.bounded.2)) free.1 fits) in
     record { ordered = keeps.0; bounded = keeps.1 }

@@ -1,7 +1,11 @@
-use Rattle.std.proofs.Common.{is_some, sym, ap, ◌∙◌}
-use Rattle.orders.proofs.Choice.{is_empty_computed}
+use Rattle.std.proofs.Common.{cond, is_some, sym, ◌∙◌, rules, tests}
+use Rattle.std.proofs.lemmas.Iterator.{YieldsList-from_slice}
+use Rattle.std.proofs.lemmas.Iterator.Search.{all_from_yields_List}
+use Rattle.std.proofs.lemmas.List.Folds.{sum_by-zero}
 use Rattle.turns.proofs.table.TurnTable.is_empty.Goals as goal
 
 pub returns : goal.returns
 returns c =
-    is_empty_computed c.args.self.now.heads c.is_none.result (sym (ap is_some c.smallest_slack.ensures) ∙ c.is_none.ensures)
+    let t = c.args.self.now.heads in
+    all_from_yields_List _ _ _ _ c.all.ensures.ran (YieldsList-from_slice t cc) (λ x b q k. search (rules, tests))
+    ∙ sym (sum_by-zero (λ place. cond (is_some place) 1 0) t)
