@@ -22,16 +22,19 @@ pub const NONE_PROMISED: LedgerFault = LedgerFault::NonePromised(Number);
 #[derive(Clone, Copy, Debug, PartialEq, Eq)]
 pub struct Step(pub u8, pub Call, pub Result<(), LedgerFault>);
 
-// Makes the calls of steps in order, and stops after the first that is answered otherwise than its step says: its
-// place is the error.
-pub fn run<L: Ledger>(ledger: &mut L, steps: &[Step]) -> Result<(), usize>
-    ensures answers { MatchResult result (λ _. AnsweredAsTold L.Ledger.held L.Ledger.depth ledger.old steps.now ledger.new) (λ place. FirstAnsweredOtherwise L.Ledger.held L.Ledger.depth ledger.old steps.now place ledger.new) }
+// A step was answered otherwise than it says: its place among the steps.
+#[derive(Clone, Copy, Debug, PartialEq, Eq)]
+pub struct AnsweredOtherwise(pub usize);
+
+// Makes the calls of steps in order, and stops after the first that is answered otherwise than its step says.
+pub fn run<L: Ledger>(ledger: &mut L, steps: &[Step]) -> Result<(), AnsweredOtherwise>
+    ensures answers { MatchResult result (λ _. AnsweredAsTold L.Ledger.held L.Ledger.depth ledger.old steps.now ledger.new) (λ wrong. FirstAnsweredOtherwise L.Ledger.held L.Ledger.depth ledger.old steps.now wrong.0 ledger.new) }
     ensures kept { L.Ledger.keeps ledger.old ledger.new }
 {
     // No chain: its closure would change the ledger that it captures, and nothing is known of the ledger after that.
     for (place, step) in steps.iter().enumerate() {
         if make_call(ledger, step.0, step.1) != step.2 {
-            return Err(place);
+            return Err(AnsweredOtherwise(place));
         }
     }
     Ok(())

@@ -41,7 +41,8 @@ pub fn read_number(text: &[u8], most: u32) -> Option<u32>
     u32::try_from(number).ok().filter(|number| *number <= most)
 }
 
-// The same, if it fits the type.
+// The same of any type of numbers, if it fits the type. A number of 2^32 or more is not read, though a larger type could
+// hold it.
 pub fn read<N: TryFrom<u32>>(text: &[u8]) -> Option<N>
 where
     N::Error: Drop,
