@@ -12,7 +12,7 @@ ghost use Rattle.drawer.specs.Theorems.{HoldsDocumented, SettlesIntoFirstFree};
 
 use drawer_image::check::check;
 use drawer_image::section::{Section, section_of};
-use ledger::{Ledger, LedgerFault, check_promise, head_index};
+use ledger::{Ledger, LedgerFault, check_amount, check_promise, head_index};
 use number::Number;
 
 mod write;
@@ -119,6 +119,9 @@ impl<'a> Ledger for Drawer<'a> {
         ensures bytes { self.new.bytes.now ≡ promised_bytes self.old.bytes.now self.old.bills head amount result }
         ensures same { self.new.bytes.ghost_name ≡ self.old.bytes.ghost_name }
     {
+        // A bad head or amount is refused before the section is read, which takes as long as the section is.
+        head_index(head)?;
+        check_amount(amount)?;
         let (first, held) = self.opened(head)?;
         check_promise(amount, held.promised, held.places())?;
         put_amount(self.bytes, first, amount);

@@ -6,7 +6,7 @@ ghost use Rattle.layers.specs.Limits.{limit_held, limit_depth, limit_beyond, lim
 
 use crate::depth::one_deeper;
 use ledger::starts::accepted_starts;
-use ledger::{HEADS, Ledger, LedgerFault, MOST_PLACES, check_promise, head_index};
+use ledger::{HEADS, Ledger, LedgerFault, MOST_PLACES, check_amount, check_promise, head_index};
 
 #[derive(Drop)]
 pub struct Limit<L> {
@@ -71,7 +71,7 @@ impl<L: Ledger> Ledger for Limit<L> {
     }
 
     // The refusals that come before 24 are looked for here, since the own count is looked at before the ledger
-    // below is asked.
+    // below is asked: the amount first, as a ledger below may read much to tell what it holds.
     fn promise(&mut self, head: u8, amount: u32) -> Result<(), LedgerFault>
         ensures answer { result ≡ promise_answer (limit_held L.Ledger.held self.old) (limit_depth L.Ledger.depth self.old head) head amount }
         ensures after { limit_held L.Ledger.held self.new ≡ promised_after (limit_held L.Ledger.held self.old) head amount }
@@ -80,6 +80,7 @@ impl<L: Ledger> Ledger for Limit<L> {
         ensures under { L.Ledger.held self.new.below ≡ (if is_ok result then promised_after (L.Ledger.held self.old.below) head amount else L.Ledger.held self.old.below) }
     {
         let index = head_index(head)?;
+        check_amount(amount)?;
         let left = self.left[index];
         check_promise(amount, self.below.promised(head)?, left)?;
         self.below.promise(head, amount).map_err(one_deeper)?;

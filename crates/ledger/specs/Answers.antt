@@ -4,6 +4,7 @@
 --   its_number               the number that a case of a fault holds, which the case's type fixes
 --   Answer                   what a call answers: done, or the fault
 --   question h x             the answer x to a question about head h: 21 if there is no such head
+--   amount_check a           the answer to an amount alone: 22 if it is not 1 to 255,000,000, else done
 --   promise_check p n d a    the answer to a promise of a for a head for which p is promised and n places are free: 22, 23,
 --                            24 with depth d, else done
 --   end_check p              the answer to an end of the promise p: 25 if it is none, else done
@@ -39,6 +40,9 @@ Answer = Result (Unit {0}) LedgerFault
 
 abbrev pub question : {A : Type 0} → ℕ → A → Result A LedgerFault
 question h x = cond (nat_le heads h) (Err (NoSuchHead its_number)) (Ok x)
+
+abbrev pub amount_check : ℕ → Answer
+amount_check a = cond (a == 0 || nat_lt most_amount a) (Err (BadAmount its_number)) (Ok tt)
 
 abbrev pub promise_check : Option ℕ → ℕ → ℕ → ℕ → Answer
 promise_check promised places d a =

@@ -6,7 +6,7 @@
 ghost use Rattle.std.specs.Prelude.{◌≡◌, ℕ, ◌≤◌};
 ghost use Rattle.ledger.specs.Held.{heads, Heads, nothing, Within, Amount};
 ghost use Rattle.ledger.specs.Starts.{start_fault_number};
-ghost use Rattle.ledger.specs.Answers.{fault_number, question, promise_check, promise_answer, end_answer, promised_after, settled_after, given_back_after};
+ghost use Rattle.ledger.specs.Answers.{fault_number, question, amount_check, promise_check, promise_answer, end_answer, promised_after, settled_after, given_back_after};
 
 use number::{Number, Numbered};
 use thiserror::Error;
@@ -82,14 +82,23 @@ pub fn head_index(head: u8) -> Result<usize, LedgerFault>
     Ok(index)
 }
 
+// Whether an amount can be promised at all. A ledger for which it costs something to tell what it holds asks this
+// first, so that a refused amount costs nothing.
+pub fn check_amount(amount: u32) -> Result<(), LedgerFault>
+    ensures { result ≡ amount_check amount }
+{
+    if !(1..=MOST_AMOUNT).contains(&amount) {
+        return Err(LedgerFault::BadAmount(Number));
+    }
+    Ok(())
+}
+
 // Why an amount cannot be promised for a head, if it cannot, by what is promised for it already and by the places
 // that are free for it.
 pub fn check_promise(amount: u32, promised: Option<u32>, places: u16) -> Result<(), LedgerFault>
     ensures { result ≡ promise_check promised places 0 amount }
 {
-    if !(1..=MOST_AMOUNT).contains(&amount) {
-        return Err(LedgerFault::BadAmount(Number));
-    }
+    check_amount(amount)?;
     if promised.is_some() {
         return Err(LedgerFault::AlreadyPromised(Number));
     }
