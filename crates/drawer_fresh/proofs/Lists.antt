@@ -1,10 +1,22 @@
 -- Lists that are repeated, and the bytes of a fresh section by their places. Assumes nothing.
-use Rattle.std.proofs.Common.{◌≡◌, ℕ, zero, suc, ◌+◌, ◌-◌, ◌*◌, ◌/◌, ◌%◌, ◌<◌, ◌≤◌, List, length, get_or, sym, refl, ap, ◌∙◌, ap₂, ⊎_elim, mul-le-mul_left, mul-add, arith, length-append}
+use Rattle.std.proofs.Common.{◌≡◌, ℕ, zero, suc, ◌+◌, ◌-◌, ◌*◌, ◌/◌, ◌%◌, ◌<◌, ◌≤◌, List, [], ◌++◌, length, get_or, sym, refl, ap, ◌∙◌, ap₂, ⊎_elim, mul-le-mul_left, mul-add, add-one, append_assoc, append-nil, arith, length-append}
 use Rattle.std.proofs.lemmas.List.{get_or_append_left, get_or-append_right}
-use Rattle.std.proofs.Math.Nat.{mod-lt, div-add-mod, div-lt_iff_lt-mul}
 use Rattle.std.proofs.lemmas.Bool.{cases_eq}
-use Rattle.ledger.specs.Held.{heads}
-use Rattle.drawer_fresh.specs.Fresh.{empty_field, repeated, fresh_section, fresh_bytes}
+use Rattle.drawer_fresh.specs.Fresh.{empty_field, repeated, fresh_section}
+
+pub repeated_none : (xs : List ℕ) → repeated 0 xs ≡ []
+unfolding repeated
+repeated_none xs = refl
+
+pub repeated_more : (n : ℕ) (xs : List ℕ) → repeated (n + 1) xs ≡ repeated n xs ++ xs
+unfolding repeated
+repeated_more n xs = ap (λ m. repeated m xs) (add-one n)
+
+-- the first copy in place of the last
+pub repeated_first : (n : ℕ) (xs : List ℕ) → xs ++ repeated n xs ≡ repeated (n + 1) xs
+unfolding repeated
+repeated_first zero xs = append-nil xs
+repeated_first (suc n) xs = sym (append_assoc xs (repeated n xs) xs) ∙ ap (λ ys. ys ++ xs) (repeated_first n xs) ∙ sym (repeated_more (n + 1) xs) ∙ ap (λ m. repeated m xs) (let z : n + 1 + 1 ≡ suc n + 1 = omega arith in z)
 
 pub length_repeated : (n m : ℕ) (xs : List ℕ) → length xs ≡ m → length (repeated n xs) ≡ m * n
 unfolding repeated
@@ -69,10 +81,3 @@ pub section_byte : (k place : ℕ) → place < 7 * (k + 1) → get_or (fresh_sec
 section_byte k place lt =
     let z : place ≡ 7 * (place / 7) + place % 7 = omega arith in
     ap (λ i. get_or (fresh_section k) i 0) z ∙ field_byte k (place / 7) (place % 7) (omega arith) (omega arith)
-
-pub fresh_at : (k i : ℕ) → i < 98 * (k + 1) → get_or (fresh_bytes k) i 0 ≡ get_or (fresh_section k) (i % (7 * (k + 1))) 0
-fresh_at k i lt =
-    let m = 7 * (k + 1) in
-    let r : i % m < m = mod-lt i (omega arith) in
-    let q : i / m < 14 = (div-lt_iff_lt-mul (omega arith)).1 (omega arith) in
-    ap (λ x. get_or (fresh_bytes k) x 0) (sym (div-add-mod i m)) ∙ get_or_repeated heads m (fresh_section k) (length_section k) (i / m) (i % m) q r

@@ -1,6 +1,6 @@
-use Rattle.std.proofs.Common.{◌≡◌, take}
-use Rattle.drawer_fresh.specs.Fresh.{fresh_bytes}
+use Rattle.std.proofs.Common.{◌≡◌, ◌*◌, take}
+use Rattle.drawer_fresh.specs.Fresh.{repeated, fresh_section}
 use Rattle.drawer_fresh.proofs.write_fresh.Given as goal
 
-abbrev pub invariant-loop-place : goal.invariant-loop-place
-invariant-loop-place l = take l.place l.bytes ≡ take l.place (fresh_bytes l.bills)
+abbrev pub invariant-loop-other : goal.invariant-loop-other
+invariant-loop-other l = take (l.section * l.other) l.others ≡ repeated l.other (fresh_section l.bills)
