@@ -16,7 +16,8 @@ repeated_more n xs = ap (λ m. repeated m xs) (add-one n)
 pub repeated_first : (n : ℕ) (xs : List ℕ) → xs ++ repeated n xs ≡ repeated (n + 1) xs
 unfolding repeated
 repeated_first zero xs = append-nil xs
-repeated_first (suc n) xs = sym (append_assoc xs (repeated n xs) xs) ∙ ap (λ ys. ys ++ xs) (repeated_first n xs) ∙ sym (repeated_more (n + 1) xs) ∙ ap (λ m. repeated m xs) (let z : n + 1 + 1 ≡ suc n + 1 = omega arith in z)
+repeated_first (suc n) xs =
+    sym (append_assoc xs (repeated n xs) xs) ∙ ap (λ ys. ys ++ xs) (repeated_first n xs) ∙ ap (λ m. repeated m xs ++ xs) (add-one n) ∙ sym (repeated_more (suc n) xs)
 
 pub length_repeated : (n m : ℕ) (xs : List ℕ) → length xs ≡ m → length (repeated n xs) ≡ m * n
 unfolding repeated

@@ -1,4 +1,4 @@
-use Rattle.std.proofs.Common.{◌≡◌, ◌+◌, ◌-◌, ◌*◌, ◌≤◌, ◌++◌, take, length, sym, refl, ap, ◌∙◌, subst, ap₂, mul-add, mul-le-mul_left, arith, rules}
+use Rattle.std.proofs.Common.{◌≡◌, ◌+◌, ◌-◌, ◌*◌, ◌≤◌, ◌++◌, take, length, sym, ap, ◌∙◌, subst, ap₂, mul-add, mul-le-mul_left, arith, rules}
 use Rattle.std.proofs.lemmas.List.{take_all}
 use Rattle.std.proofs.lemmas.Slice.{take-put_mid}
 use Rattle.drawer_image.proofs.Sounds.{size_accepted}
