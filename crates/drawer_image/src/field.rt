@@ -26,15 +26,12 @@ impl Field {
         if u16::from_le_bytes([low, high]) != 4 {
             return None;
         }
-        let amount = u32::from_le_bytes([a, b, c, d]);
-        if amount > MOST_AMOUNT {
-            return None;
-        }
-        match tag {
-            PROMISE_TAG if amount == 0 => Some(Field::Promise(None)),
-            PROMISE_TAG => Some(Field::Promise(Some(amount))),
-            SETTLED_TAG if amount > 0 => Some(Field::Settled(amount)),
-            FREE_TAG if amount == 0 => Some(Field::Free),
+        // The tag first: a free field, as most are, is then told by one comparison of its amount.
+        match (tag, u32::from_le_bytes([a, b, c, d])) {
+            (FREE_TAG, 0) => Some(Field::Free),
+            (SETTLED_TAG, amount @ 1..=MOST_AMOUNT) => Some(Field::Settled(amount)),
+            (PROMISE_TAG, 0) => Some(Field::Promise(None)),
+            (PROMISE_TAG, amount @ 1..=MOST_AMOUNT) => Some(Field::Promise(Some(amount))),
             _ => None,
         }
     }
