@@ -17,18 +17,19 @@ pub type Places = [Option<Turn>; HEADS];
 pub fn fits_limits(places: &Places) -> bool
     ensures { result ≡ fits_limits places.now }
 {
-    let count = places.iter().filter(|place| place.is_some()).count();
-    places.iter().all(|place| place.is_none_or(|turn| count <= usize::from(turn.limit.value())))
+    let count: u8 = places.iter().map(|place| u8::from(place.is_some())).sum();
+    places.iter().all(|place| place.is_none_or(|turn| count <= turn.limit.value()))
 }
 
-// How many heads have a slack of at most k.
-fn heads_within(places: &Places, k: usize) -> usize
+// How many heads have a slack of at most k. Each place adds 0 or 1, so that no branch hangs on a slack: with `filter` and
+// `count` a slot takes over 0.1 microseconds, five times as long as with these, where the wishes come in no order.
+fn heads_within(places: &Places, k: u8) -> u8
     ensures { result ≡ heads_within k places.now }
 {
     places
         .iter()
-        .filter(|place| place.is_some_and(|turn| usize::from(turn.slack) <= k))
-        .count()
+        .map(|place| u8::from(place.is_some_and(|turn| turn.slack <= k)))
+        .sum()
 }
 
 // Whether an order of these heads leaves the first place to another: for each k from 1 to 14, at most k - 1 of them
@@ -36,7 +37,7 @@ fn heads_within(places: &Places, k: usize) -> usize
 pub fn leaves_first(others: &Places) -> bool
     ensures { result ≡ leaves_first others.now 14 }
 {
-    (0..HEADS).all(|k| heads_within(others, k + 1) <= k)
+    (0..HEADS as u8).all(|k| heads_within(others, k + 1) <= k)
 }
 
 // The better of a head found so far, with its slack, and this one: the smaller slack, the one found first on a tie.
@@ -61,23 +62,22 @@ pub fn smallest_slack(places: &Places) -> Option<u8>
         .map(|(head, _)| head)
 }
 
-// The places after a slot that is no head's: all slacks fall. Written in place, since with the array's `map` a slot takes
-// over 0.1 microseconds.
-fn all_lowered(places: &Places) -> Places
-    ensures { result ≡ map lowered places.now }
+// All slacks fall, as in a slot that is no head's. Written in place: with the array's `map` a slot takes over 0.1
+// microseconds, and with new places handed back it takes a quarter longer than with these.
+fn lower_all(places: &mut Places)
+    ensures { places.new ≡ map lowered places.old }
 {
-    let mut next = *places;
-    for place in next.iter_mut() {
+    for place in places.iter_mut() {
         *place = place.map(Turn::lowered);
     }
-    next
 }
 
 // The places after a slot for head h. A number over 13 is no head's.
 pub fn after_slot(places: &Places, h: u8) -> Places
     ensures { result ≡ served places.now h }
 {
-    let mut next = all_lowered(places);
+    let mut next = *places;
+    lower_all(&mut next);
     // Read with `get`, then written at its index: of an array written through `get_mut` a proof knows no element.
     if let Some(place) = places.get(usize::from(h)) {
         next[usize::from(h)] = place.map(Turn::restored);

@@ -1,7 +1,8 @@
 use Rattle.std.proofs.Common.{◌≡◌, ◌++◌, map, length, take, drop}
 use Rattle.orders.specs.Slots.{lowered}
-use Rattle.orders.proofs.places.all_lowered.Given as goal
+use Rattle.orders.proofs.places.lower_all.Given as goal
 
 abbrev pub invariant-loop-place : goal.invariant-loop-place
 invariant-loop-place l =
-    (length l.place-items ≡ 14) × (l.place-items ≡ map lowered (take l.place-index l.places) ++ drop l.place-index l.places)
+    (length l.places ≡ 14)
+    × (l.places ≡ map lowered (take l.place-index l.fn.places) ++ drop l.place-index l.fn.places)
