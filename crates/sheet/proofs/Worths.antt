@@ -1,10 +1,21 @@
 -- What a denomination is worth lies within an amount. Assumes nothing.
-use Rattle.std.proofs.Common.{◌≡◌, ℕ, ◌-◌, ◌*◌, ◌^◌, ◌≤◌, Bool, true, false, cond, eqb, get_or, Some, None, refl, mul-le-mul, arith}
+use Rattle.std.proofs.Common.{◌≡◌, ℕ, zero, suc, [], ◌∷◌, ◌-◌, ◌*◌, ◌^◌, ◌≤◌, Bool, true, false, cond, eqb, get_or, Some, None, refl, mul-le-mul, arith}
 use native.Mathlib.Nat.{one-le-pow, pow-le-pow_right}
 use Rattle.std.proofs.lemmas.Bool.{eqb-false}
 use Rattle.sheet.specs.Sheets.{is_bill, unassigned, worth_of}
 use Rattle.sheet.specs.Amounts.{ValuesAreAmounts}
 use Rattle.sheet.specs.declared.denomination.Denomination.{Denomination}
+
+-- a power of ten, as the table has it
+pub power_at : (e d : ℕ) → e ≤ 6 → get_or (1 ∷ 10 ∷ 100 ∷ 1000 ∷ 10000 ∷ 100000 ∷ 1000000 ∷ []) e d ≡ 10 ^ e
+power_at zero d le = refl
+power_at (suc zero) d le = refl
+power_at (suc (suc zero)) d le = refl
+power_at (suc (suc (suc zero))) d le = refl
+power_at (suc (suc (suc (suc zero)))) d le = refl
+power_at (suc (suc (suc (suc (suc zero))))) d le = refl
+power_at (suc (suc (suc (suc (suc (suc zero)))))) d le = refl
+power_at (suc (suc (suc (suc (suc (suc (suc e))))))) d le = absurd (omega arith)
 
 -- no value is larger than the largest
 pub product_small : (d : Denomination) → d.mantissa * 10 ^ d.exponent ≤ 255000000

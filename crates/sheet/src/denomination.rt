@@ -41,6 +41,9 @@ impl TryFrom<Pair> for Denomination {
     }
 }
 
+// The powers of ten that an exponent can ask for. With `pow` a value takes a third longer.
+const POWERS: [u32; 7] = [1, 10, 100, 1_000, 10_000, 100_000, 1_000_000];
+
 impl Denomination {
     pub const UNASSIGNED: Denomination = Denomination {
         mantissa: 0,
@@ -48,13 +51,13 @@ impl Denomination {
     };
 
     // What a bill is worth, or None where the code is unassigned.
-    #[tactic(auto, using(crate::proofs::Worths::product_small))]
+    #[tactic(auto, using(crate::proofs::Worths::product_small, crate::proofs::Worths::power_at))]
     pub fn value(self) -> Option<u32>
         ensures { result ≡ worth self.mantissa self.exponent }
     {
         if self.mantissa == 0 {
             return None;
         }
-        Some(u32::from(self.mantissa) * 10u32.pow(u32::from(self.exponent)))
+        Some(u32::from(self.mantissa) * POWERS[usize::from(self.exponent)])
     }
 }

@@ -33,12 +33,18 @@ pub struct Sheet {
     pub(crate) options: [u8; 2],
 }
 
+// The pairs as denominations, unless one of them is wrong. Written one by one into the array: with the array's `try_map`,
+// which keeps the places in two more arrays on the way, a sheet's check takes three times as long.
 fn check_denominations(
     pairs: [Pair; DENOMINATIONS],
 ) -> Result<[Denomination; DENOMINATIONS], SheetFault>
     ensures { told_denominations result ≡ denominations_answer pairs }
 {
-    pairs.try_map(Denomination::try_from)
+    let mut checked = [Denomination::UNASSIGNED; DENOMINATIONS];
+    for (place, pair) in pairs.iter().enumerate() {
+        checked[place] = Denomination::try_from(*pair)?;
+    }
+    Ok(checked)
 }
 
 // The place of a bill's code among the denominations.
