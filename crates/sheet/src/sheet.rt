@@ -36,9 +36,9 @@ pub struct Sheet {
 // The pairs as denominations, unless one of them is wrong. Written one by one into the array: with the array's `try_map`,
 // which keeps the places in two more arrays on the way, a sheet's check takes three times as long.
 fn check_denominations(
-    pairs: [Pair; DENOMINATIONS],
+    pairs: &[Pair; DENOMINATIONS],
 ) -> Result<[Denomination; DENOMINATIONS], SheetFault>
-    ensures { told_denominations result ≡ denominations_answer pairs }
+    ensures { told_denominations result ≡ denominations_answer pairs.now }
 {
     let mut checked = [Denomination::UNASSIGNED; DENOMINATIONS];
     for (place, pair) in pairs.iter().enumerate() {
@@ -63,7 +63,7 @@ impl Sheet {
         ensures { told result ≡ sheet_answer draft.now }
     {
         let limit = Limit::new(draft.limit).ok_or(SheetFault::SheetWrong)?;
-        let denominations = check_denominations(draft.denominations)?;
+        let denominations = check_denominations(&draft.denominations)?;
         Ok(Sheet {
             limit,
             denominations,

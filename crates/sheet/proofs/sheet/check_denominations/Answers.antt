@@ -7,7 +7,7 @@ use Rattle.sheet.proofs.sheet.check_denominations.Goals as goal
 
 pub loop-place-preserved : goal.loop-place-preserved
 loop-place-preserved c =
-    let pairs = c.args.pairs in
+    let pairs = c.args.pairs.now in
     let i = c.loop-place.place in
     let d = c.in_ok-checked.field-0 in
     let inv = c.loop-place.invariant in
@@ -17,7 +17,7 @@ loop-place-preserved c =
 
 pub returns-in_err-checked : goal.returns-in_err-checked
 returns-in_err-checked c =
-    let pairs = c.args.pairs in
+    let pairs = c.args.pairs.now in
     let i = c.loop-place.place in
     let e = c.in_err-checked.field-0.0 in
     let answered : Err e ≡ denomination_answer (get_or pairs i (pair 0 0)) = sym (ap told_denomination c.in_err-checked.was) ∙ c.try_from.ensures in
@@ -26,7 +26,7 @@ returns-in_err-checked c =
 
 pub returns : goal.returns
 returns c =
-    let pairs = c.args.pairs in
+    let pairs = c.args.pairs.now in
     let checked = c.loop-place.checked in
     let i = c.loop-place.place in
     let all : length pairs ≤ i = omega arith in
