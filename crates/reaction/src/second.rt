@@ -72,4 +72,18 @@ impl SecondFrame {
     {
         frame::write(self.command(), self.data(), buffer)
     }
+
+    // Writes a second frame that there may be none of: for none the buffer stays as it is, and the length is 0, so that
+    // whoever puts that many bytes of the buffer on the line puts none. Of a frame it is `write`.
+    pub fn write_if_any(frame: &Option<SecondFrame>, buffer: &mut [u8]) -> Result<usize, WriteFault>
+        ensures answer { result ≡ room_answer (frame_content frame.now) (length buffer.old) }
+        ensures after { buffer.new ≡ buffer_with (frame_content frame.now) buffer.old result }
+        ensures seven { SevenSuffice (frame_content frame.now) buffer.old result buffer.new }
+    {
+        // No `map_or`: of a buffer that a closure changes nothing would be known afterwards.
+        match frame {
+            Some(frame) => frame.write(buffer),
+            None => Ok(0),
+        }
+    }
 }
