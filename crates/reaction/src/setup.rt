@@ -3,7 +3,7 @@ ghost use Rattle.std.specs.Prelude.{◌≡◌};
 ghost use Rattle.std.specs.Option.{option_map};
 ghost use Rattle.message.specs.Kinds.{message_content};
 ghost use Rattle.sheet.specs.Settings.{setting_content};
-ghost use Rattle.reaction.specs.Setups.{OnlyTheExactEchoConfirms, fresh_setup, next_setting, same_content, setup_hearing};
+ghost use Rattle.reaction.specs.Setups.{OnlyTheExactEchoConfirms, fresh_setup, next_setting, same_content, setting_if, setup_hearing};
 
 use message::Message;
 use sheet::{Setting, Sheet};
@@ -49,6 +49,16 @@ impl Setup {
             .is_some_and(|(setting, message)| is_echo(&setting, message));
         if echoed {
             self.confirmed += 1;
+        }
+    }
+
+    // Takes what was heard after the second frame, where `sent` tells whether that was the first unconfirmed setting: of a
+    // setting that was not sent nothing is confirmed, whatever is heard.
+    pub fn hear_if_sent<'a>(&mut self, sent: bool, heard: Option<Message<'a>>)
+        ensures { self.new ≡ setup_hearing (setting_if sent self.old) (option_map message_content heard.entry) self.old }
+    {
+        if sent {
+            self.hear(heard);
         }
     }
 }
