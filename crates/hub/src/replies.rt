@@ -50,11 +50,7 @@ pub(crate) fn write_frame(frame: &Option<SecondFrame>, buffer: &mut [u8]) -> usi
     ensures long { result ≡ length_of (frame_content frame.now) }
     ensures after { buffer.new ≡ (written (frame_content frame.now) buffer.old).0 }
 {
-    // No `map_or`: of a buffer that a closure changes nothing would be known afterwards.
-    match frame {
-        Some(frame) => frame.write(buffer).unwrap(),
-        None => 0,
-    }
+    SecondFrame::write_if_any(frame, buffer).unwrap()
 }
 
 impl State {
@@ -112,11 +108,8 @@ impl State {
         ensures { self.new ≡ after_hearing self.old head (option_map message_content said.entry) }
     {
         let mut setup = self.setup(head);
-        // The echo of a setting that was just sent confirms it.
-        if self.setting_sent()
-            && let Some(setup) = &mut setup
-        {
-            setup.hear(said);
+        if let Some(setup) = &mut setup {
+            setup.hear_if_sent(self.setting_sent(), said);
         }
         put_setup(&mut self.setups, head, setup);
         self.slot = Slot::Closed;
