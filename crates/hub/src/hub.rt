@@ -1,5 +1,6 @@
 // The hub: its state, and the ledger that it owns.
 ghost use Rattle.std.specs.Prelude.{◌≡◌, length};
+ghost use Rattle.orders.specs.Orders.{Bounded, SomeOrder};
 ghost use Rattle.hub.specs.Heads.{Admits, after_dismissal, dismissal_answer};
 ghost use Rattle.reaction.specs.Calls.{listed};
 ghost use Rattle.hub.specs.Reports.{after_cut, after_first, after_second, buffer_after_first, calls_awaited, check, cut_told, first_check, first_told, ledger_after_cut, ledger_after_first, second_told, told_first, told_second};
@@ -190,5 +191,15 @@ impl<L: Ledger> Hub<L> {
         ensures { result ≡ setup_of self.now.state head }
     {
         self.state.setup(head)
+    }
+
+    // Of every hub that there is, as of every turn table: some order keeps each head within its slack, and the heads outnumber
+    // no limit. Clauses see a hub's state without the proofs that its turn table holds, so whoever needs them of a hub calls
+    // this. It does nothing.
+    pub fn some_order_keeps_every_head_in_time(&self)
+        ensures ordered { ∥ SomeOrder self.now.state.table ∥₁ }
+        ensures bounded { Bounded self.now.state.table }
+    {
+        self.state.some_order_keeps_every_head_in_time();
     }
 }

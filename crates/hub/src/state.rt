@@ -1,5 +1,6 @@
 // What the hub knows of its heads and of the open slot.
 ghost use Rattle.std.specs.Prelude.{◌≡◌};
+ghost use Rattle.orders.specs.Orders.{Bounded, SomeOrder};
 ghost use Rattle.hub.specs.States.{is_open, new_state, restarted, served_by, setup_of};
 
 use ledger::HEADS;
@@ -81,5 +82,14 @@ impl State {
         ensures { result ≡ setup_of self.now head }
     {
         self.setups.get(head as usize).copied().flatten()
+    }
+
+    // What the turn table holds of its heads, for clauses that see the state without it. A proof learns it where the state is
+    // opened, so the body names the field, and does nothing.
+    pub(crate) fn some_order_keeps_every_head_in_time(&self)
+        ensures ordered { ∥ SomeOrder self.now.table ∥₁ }
+        ensures bounded { Bounded self.now.table }
+    {
+        let _ = &self.turns;
     }
 }
