@@ -11,7 +11,8 @@ use std::fmt;
 use thiserror::Error;
 use turns::fault::{AdmissionFault, DismissalFault};
 
-// Each call has an enum of its own, here and below: it can refuse with nothing else, and the definition shows every number.
+// Each call has a refusal of its own, here and below: it can refuse with nothing else, and the definition shows every number.
+// Only a second report and a cut share one enum, `ReportRefusal`, each at its own pass.
 #[derive(Clone, Copy, Debug, PartialEq, Eq, Error)]
 pub enum AdmissionRefusal {
     #[error("{}: a slot is open", self.number())]
