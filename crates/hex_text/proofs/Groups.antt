@@ -1,48 +1,124 @@
 -- A line as groups of two digits, with one blank between. Assumes nothing.
-use Rattle.std.proofs.Common.{◌≡◌, ◌≢◌, ℕ, zero, suc, ◌+◌, ◌-◌, ◌^◌, ◌/◌, ◌%◌, ◌<◌, false, true, eqb, List, [], ◌∷◌, ◌++◌, length, get_or, take, drop, map, subst, sym, refl, ap, ◌∙◌, arith}
+use Rattle.std.proofs.Common.{◌≡◌, ◌≢◌, ℕ, zero, suc, ◌+◌, ◌-◌, ◌*◌, ◌^◌, ◌/◌, ◌%◌, ◌<◌, ◌≤◌, false, true, List, [], ◌∷◌, ◌++◌, length, get_or, take, drop, subst, sym, refl, ap, ◌∙◌, arith, append_assoc, length-append, length-drop}
 use Rattle.std.proofs.lemmas.Fmt.{hex_byte}
 use Rattle.std.specs.Fmt.{padded_integral, format_spec, digits}
-use Rattle.std.proofs.lemmas.List.{take_more, get_or-map, length-map}
-use Rattle.std.proofs.lemmas.List.Splits.{slice_split_none, slice_split_at, join_with_byte-slice_split, length-slice_split}
+use Rattle.std.proofs.lemmas.List.{take_more, take_all, take_at, take-append-drop, drop_more, get_or-drop, length-take-le, nil_from_length}
 use Rattle.std.proofs.lemmas.Bool.Decides.{nat_tests}
-use Rattle.std.specs.List.{slice_split, join_with_byte, All}
+use Rattle.std.specs.Simd.{first_chunks}
 use Rattle.hex_text.specs.Spelled.{Bytes, digit, pair, blanked, spelled}
 
-no_blank : (n : ℕ) → eqb (digit n) 32 ≡ false
-no_blank n = grind (arith, nat_tests)
-
-no_blanks : (b : ℕ) → All (λ x. eqb x 32 ≡ false) (pair b)
-no_blanks b zero d h = no_blank (b / 16)
-no_blanks b (suc zero) d h = no_blank (b % 16)
-no_blanks b (suc (suc k)) d h = absurd (omega arith)
-
--- the groups of a line that spells bytes are their digits
-split_spelled : (b : ℕ) (bs : List ℕ) → slice_split (λ x. eqb x 32) (spelled (b ∷ bs)) ≡ map pair (b ∷ bs)
+pub length_blanked : (bs : List ℕ) → length (blanked bs) ≡ 3 * length bs
 unfolding blanked
-split_spelled b [] = slice_split_none (λ x. eqb x 32) (pair b) (no_blanks b)
-split_spelled b (c ∷ bs) =
-    slice_split_at (λ x. eqb x 32) (pair b) 32 (spelled (c ∷ bs)) (no_blanks b) refl ∙ ap (λ l. pair b ∷ l) (split_spelled c bs)
+length_blanked [] = refl
+length_blanked (b ∷ bs) = let ih = length_blanked bs in omega arith
 
-pub groups : (line bs : List ℕ) → 0 < length line → line ≡ spelled bs → slice_split (λ x. eqb x 32) line ≡ map pair bs
+pub blanked_append : (xs ys : List ℕ) → blanked (xs ++ ys) ≡ blanked xs ++ blanked ys
 unfolding blanked
-groups line [] some is = absurd (omega (arith, ap length is))
-groups line (b ∷ bs) some is = ap (slice_split (λ x. eqb x 32)) is ∙ split_spelled b bs
+blanked_append [] ys = refl
+blanked_append (x ∷ xs) ys = ap (λ l. 32 ∷ pair x ++ l) (blanked_append xs ys)
 
--- digits with one blank between spell the bytes
-joined : (b : ℕ) (bs : List ℕ) → join_with_byte 32 (map pair (b ∷ bs)) ≡ spelled (b ∷ bs)
+with_blank : (line bs : List ℕ) → 0 < length line → line ≡ spelled bs → 32 ∷ line ≡ blanked bs
 unfolding blanked
-joined b [] = refl
-joined b (c ∷ bs) = ap (λ l. pair b ++ 32 ∷ l) (joined c bs)
+with_blank line [] h e = absurd (let n = ap length e in omega arith)
+with_blank line (b ∷ bs) h e = ap (λ l. 32 ∷ l) e
 
-pub line_of : (line bs : List ℕ) → slice_split (λ x. eqb x 32) line ≡ map pair bs → line ≡ spelled bs
-line_of line [] is = absurd (omega (arith, length-slice_split (λ x. eqb x 32) line, ap length is))
-line_of line (b ∷ bs) is = sym (join_with_byte-slice_split 32 line) ∙ ap (join_with_byte 32) is ∙ joined b bs
+-- a line is a blank and two digits for each byte, the first blank left out
+pub counted : (line bs : List ℕ) → 0 < length line → line ≡ spelled bs → length line % 3 ≡ 2
+counted line bs some is = omega (arith, ap length (with_blank line bs some is), length_blanked bs)
 
--- a group that is not the digits of a byte
-pub none_spelled : (line group : List ℕ) (i : ℕ) → 0 < length line → (i < length (slice_split (λ x. eqb x 32) line)) × (group ≡ get_or (slice_split (λ x. eqb x 32) line) i group) → ((b : ℕ) → b < 256 → group ≢ pair b) → (bs : List ℕ) → Bytes bs → line ≢ spelled bs
-none_spelled line group i some at none bs fit is =
-    let parts = groups line bs some is in
-    none (get_or bs i 0) (fit i) (at.1 ∙ ap (λ l. get_or l i group) parts ∙ get_or-map pair bs i 0 group (omega (arith, at.0, ap length parts, length-map bs pair)))
+pub two_long : (xs : List ℕ) → length xs ≡ 2 → xs ≡ get_or xs 0 0 ∷ get_or xs 1 0 ∷ []
+two_long [] n = absurd (omega arith)
+two_long (x ∷ []) n = absurd (omega arith)
+two_long (x ∷ y ∷ xs) n = ap (λ l. x ∷ y ∷ l) (nil_from_length xs (omega arith))
+
+pub three_long : (xs : List ℕ) → length xs ≡ 3 → xs ≡ get_or xs 0 0 ∷ get_or xs 1 0 ∷ get_or xs 2 0 ∷ []
+three_long [] n = absurd (omega arith)
+three_long (x ∷ xs) n = ap (λ l. x ∷ l) (two_long xs (omega arith))
+
+-- the groups of a line, one behind the other
+unfoldable pub joined : List (List ℕ) → List ℕ
+joined [] = []
+joined (g ∷ gs) = g ++ joined gs
+
+joined_append : (gs hs : List (List ℕ)) → joined (gs ++ hs) ≡ joined gs ++ joined hs
+unfolding joined
+joined_append [] hs = refl
+joined_append (g ∷ gs) hs = ap (λ l. g ++ l) (joined_append gs hs) ∙ sym (append_assoc g (joined gs) (joined hs))
+
+joined_chunks : (k : ℕ) (xs : List ℕ) → k * 3 ≡ length xs → joined (first_chunks 3 k xs) ≡ xs
+unfolding joined
+joined_chunks zero xs n = sym (nil_from_length xs (omega arith))
+joined_chunks (suc k) xs n =
+    ap (λ l. take 3 xs ++ l) (joined_chunks k (drop 3 xs) (omega (arith, length-drop 3 xs))) ∙ take-append-drop 3 xs
+
+chunk_length : (k : ℕ) (xs : List ℕ) (i : ℕ) → k * 3 ≡ length xs → i < k → length (get_or (first_chunks 3 k xs) i []) ≡ 3
+chunk_length zero xs i n h = absurd (omega arith)
+chunk_length (suc k) xs zero n h = length-take-le 3 xs (omega arith)
+chunk_length (suc k) xs (suc i) n h = chunk_length k (drop 3 xs) i (omega (arith, length-drop 3 xs)) (omega arith)
+
+-- a line is cut into what is over and groups of three
+pub record Cut (line first : List ℕ) (groups : List (List ℕ)) : Type 0 where
+  pub whole : line ≡ first ++ joined groups
+  pub over : first ≡ take (length line % 3) line
+  pub three : (i : ℕ) → i < length groups → length (get_or groups i []) ≡ 3
+
+pub cut_of : (line first : List ℕ) (groups : List (List ℕ)) → first ≡ take (length line % 3) line → groups ≡ first_chunks 3 (length line / 3) (drop (length line % 3) line) → length groups ≡ length line / 3 → Cut line first groups
+cut_of line first groups f g n =
+    let k : length line / 3 * 3 ≡ length (drop (length line % 3) line) = omega (arith, length-drop (length line % 3) line) in
+    record {
+      whole = sym (ap (λ l. l ++ joined groups) f ∙ ap (λ l. take (length line % 3) line ++ joined l) g ∙ ap (λ l. take (length line % 3) line ++ l) (joined_chunks (length line / 3) (drop (length line % 3) line) k) ∙ take-append-drop (length line % 3) line);
+      over = f;
+      three = λ i h. ap (λ l. length (get_or l i [])) g ∙ chunk_length (length line / 3) (drop (length line % 3) line) i k (omega arith);
+    }
+
+-- the first digits of a line are not those of a byte
+pub none_first : (line first : List ℕ) → 0 < length line → first ≡ take (length line % 3) line → ((b : ℕ) → b < 256 → first ≢ pair b) → (bs : List ℕ) → Bytes bs → line ≢ spelled bs
+unfolding blanked
+none_first line first some over none [] fit is = absurd (omega (arith, ap length is))
+none_first line first some over none (b ∷ bs) fit is =
+    let n = ap length is in
+    let two : length line % 3 ≡ 2 = omega (arith, length_blanked bs) in
+    none b (fit 0) (over ∙ ap (λ k. take k line) two ∙ ap (take 2) is)
+
+-- the first byte is read
+pub first_read : (first : List ℕ) (groups : List (List ℕ)) (items : List ℕ) (b : ℕ) → first ≡ pair b → items ≡ b ∷ [] → 32 ∷ first ++ joined (take 0 groups) ≡ blanked items
+unfolding blanked joined
+first_read first groups items b is e = ap (λ l. 32 ∷ l ++ []) is ∙ ap blanked (sym e)
+
+module _ (line first : List ℕ) (groups : List (List ℕ)) (cut : Cut line first groups) (items : List ℕ) (i : ℕ) (read : 32 ∷ first ++ joined (take i groups) ≡ blanked items) where
+  -- one byte more is read
+  pub group_read : (digits items' : List ℕ) (b : ℕ) → i < length groups → get_or groups i [] ≡ 32 ∷ digits → digits ≡ pair b → items' ≡ items ++ b ∷ [] → 32 ∷ first ++ joined (take (i + 1) groups) ≡ blanked items'
+  unfolding blanked joined
+  group_read digits items' b h group is e =
+      ap (λ l. 32 ∷ first ++ joined l) (take_more groups i [] h) ∙ ap (λ l. 32 ∷ first ++ l) (joined_append (take i groups) (get_or groups i [] ∷ [])) ∙ sym (append_assoc (32 ∷ first) (joined (take i groups)) (get_or groups i [] ++ [])) ∙ ap (λ l. l ++ (get_or groups i [] ++ [])) read ∙ ap (λ l. blanked items ++ (l ++ [])) (group ∙ ap (λ l. 32 ∷ l) is) ∙ sym (blanked_append items (b ∷ [])) ∙ ap blanked (sym e)
+
+  -- a group that is not a blank and the digits of a byte
+  pub none_spelled : i < length groups → 0 < length line → ((b : ℕ) → b < 256 → get_or groups i [] ≢ 32 ∷ pair b) → (bs : List ℕ) → Bytes bs → line ≢ spelled bs
+  unfolding blanked joined
+  none_spelled h some none bs fit is =
+      at (drop (length items) bs) (λ k. rw (get_or-drop (length items) bs k 0) (fit (length items + k))) (left items bs (sym rest ∙ with_blank line bs some is))
+    where
+      more : List ℕ
+      more = joined (drop (i + 1) groups)
+
+      rest : 32 ∷ line ≡ blanked items ++ (get_or groups i [] ++ more)
+      rest =
+          ap (λ l. 32 ∷ l) cut.whole ∙ ap (λ l. 32 ∷ first ++ joined l) (sym (take-append-drop i groups)) ∙ ap (λ l. 32 ∷ first ++ l) (joined_append (take i groups) (drop i groups)) ∙ sym (append_assoc (32 ∷ first) (joined (take i groups)) (joined (drop i groups))) ∙ ap (λ l. l ++ joined (drop i groups)) read ∙ ap (λ l. blanked items ++ joined l) (drop_more groups i [] h)
+
+      left : (items bs : List ℕ) → blanked items ++ (get_or groups i [] ++ more) ≡ blanked bs → get_or groups i [] ++ more ≡ blanked (drop (length items) bs)
+      left [] bs e = e
+      left (x ∷ items) [] e = absurd (let n = ap length e in omega arith)
+      left (x ∷ items) (b ∷ bs) e = left items bs (ap (drop 3) e)
+
+      at : (ds : List ℕ) → Bytes ds → get_or groups i [] ++ more ≡ blanked ds → ⊥
+      at [] fit e = omega (arith, ap length e, length-append (get_or groups i []) more, cut.three i h)
+      at (b ∷ ds) fit e =
+          none b (fit 0) (sym (take_at (get_or groups i []) more 3 (cut.three i h)) ∙ ap (take 3) e)
+
+-- all bytes are read
+pub all_read : (line first : List ℕ) (groups : List (List ℕ)) (items : List ℕ) (i : ℕ) → Cut line first groups → length groups ≤ i → 32 ∷ first ++ joined (take i groups) ≡ blanked items → line ≡ spelled items
+all_read line first groups items i cut end read =
+    ap (drop 1) (ap (λ l. 32 ∷ l) (cut.whole ∙ ap (λ l. first ++ joined l) (sym (take_all i groups end))) ∙ read)
 
 pub nothing_spelled : (line items : List ℕ) → length line ≡ 0 → items ≡ [] → Bytes items × (line ≡ spelled items)
 unfolding blanked
@@ -53,13 +129,14 @@ nothing_spelled (b ∷ line) items h e = absurd (omega arith)
 pub two_digits : (b : ℕ) → b < 256 → padded_integral (format_spec 32 0 4 2 (2 ^ 64 - 1)) false [] (digits 16 true b) ≡ pair b
 two_digits b fits = hex_byte true b fits
 
-blanked_append : (xs ys : List ℕ) → blanked (xs ++ ys) ≡ blanked xs ++ blanked ys
-unfolding blanked
-blanked_append [] ys = refl
-blanked_append (x ∷ xs) ys = ap (λ l. 32 ∷ pair x ++ l) (blanked_append xs ys)
-
 pub blanked_more : (bs : List ℕ) (i : ℕ) → i < length bs → blanked (take (i + 1) bs) ≡ blanked (take i bs) ++ blanked (get_or bs i 0 ∷ [])
 blanked_more bs i h = ap blanked (take_more bs i 0 h) ∙ blanked_append (take i bs) (get_or bs i 0 ∷ [])
+
+pub bytes_push : (bs : List ℕ) (b : ℕ) → Bytes bs → b < 256 → Bytes (bs ++ b ∷ [])
+bytes_push [] b fit h zero = h
+bytes_push [] b fit h (suc k) = omega arith
+bytes_push (x ∷ bs) b fit h zero = fit 0
+bytes_push (x ∷ bs) b fit h (suc k) = bytes_push bs b (λ j. fit (suc j)) h k
 
 -- the same digits are the same byte
 digit_number : (m n : ℕ) → m < 16 → n < 16 → digit m ≡ digit n → m ≡ n

@@ -1,7 +1,7 @@
 // Bytes as text: two uppercase hexadecimal digits each, with one blank between.
 #![tactic(auto)]
 
-ghost use Rattle.std.specs.Prelude.{◌≡◌, IfOk, Some, string_bytes};
+ghost use Rattle.std.specs.Prelude.{◌≡◌, [], ◌∷◌, IfOk, Some, string_bytes};
 ghost use Rattle.hex_text.specs.declared.HexFault.TheVariants.{NoMemory};
 ghost use Rattle.hex_text.specs.Spelled.{DigitOf, ByteOf, Parsed, blanked};
 
@@ -44,16 +44,14 @@ fn digit_value(letter: u8) -> Option<u8>
 }
 
 // The byte that two uppercase digits spell.
-fn byte_of(group: &[u8]) -> Option<u8>
-    ensures { ByteOf group.now result }
+fn byte_of(high: u8, low: u8) -> Option<u8>
+    ensures { ByteOf (high ∷ low ∷ []) result }
 {
-    let [high, low] = group else {
-        return None;
-    };
-    Some(16 * digit_value(*high)? + digit_value(*low)?)
+    Some(16 * digit_value(high)? + digit_value(low)?)
 }
 
-// The bytes that a line of text spells.
+// The bytes that a line of text spells: two digits, and then groups of a blank and two digits. A line of another length
+// is refused before any memory is asked for.
 pub fn parse(heap: Global, line: &[u8]) -> Result<Vec<u8>, HexFault>
     ensures { Parsed line.now result }
 {
@@ -61,8 +59,16 @@ pub fn parse(heap: Global, line: &[u8]) -> Result<Vec<u8>, HexFault>
     if line.is_empty() {
         return Ok(bytes);
     }
-    for group in line.split(|letter| *letter == b' ') {
-        let byte = byte_of(group).ok_or(HexFault::NotHex)?;
+    let ([high, low], groups) = line.as_rchunks::<3>() else {
+        return Err(HexFault::NotHex);
+    };
+    let first = byte_of(*high, *low).ok_or(HexFault::NotHex)?;
+    bytes.push(first)?;
+    for group in groups {
+        let [b' ', high, low] = group else {
+            return Err(HexFault::NotHex);
+        };
+        let byte = byte_of(*high, *low).ok_or(HexFault::NotHex)?;
         bytes.push(byte)?;
     }
     Ok(bytes)
