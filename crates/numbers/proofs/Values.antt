@@ -1,6 +1,6 @@
 -- What decimal digits write. Assumes nothing.
 use Rattle.std.proofs.Common.{◌≡◌, ◌≢◌, ℕ, zero, suc, ◌^◌, ◌<◌, ◌≤◌, min, ◌+◌, List, length, get_or, decimal, Option, MatchOption, Some, None, Result, Ok, Err, sym, ap, subst, ◌∙◌, arith}
-use Rattle.std.proofs.lemmas.Fmt.{decimal_is_IsNumeral, decimal-digits_value, first_decimal, decimal_digit, decimal_injective}
+use Rattle.std.proofs.lemmas.Fmt.{decimal_is_IsNumeral, decimal-digits_value, first_decimal, decimal_digit, decimal_injective, length-decimal-le}
 use Rattle.std.specs.Result.{result_ok}
 use Rattle.std.proofs.lemmas.Str.Parse.{IsNumeralModel, numerals_by_value, tells_digits}
 use Rattle.std.specs.Str.Parse.{AllDigits, digits_value}
@@ -25,6 +25,12 @@ reads_back text n small e =
 -- no number is spelled where no decimal digits stand
 pub none_spelled : (text : List ℕ) (most : ℕ) → most < 2 ^ 64 → (Decimal text → ⊥) → (n : ℕ) → n ≤ most → text ≢ decimal n
 none_spelled text most small none n h e = none (reads_back text n (omega arith) e).0
+
+-- nor by a text of more digits than a number up to most has
+pub too_long : (text : List ℕ) (most : ℕ) → most < 2 ^ 32 → 10 < length text → (n : ℕ) → n ≤ most → text ≢ decimal n
+too_long text most small long n h e =
+    let most_digits = length-decimal-le 10 n (omega arith) (omega arith) (omega arith) in
+    omega (arith, ap length e)
 
 -- what is read with a cap one above most spells a number up to most
 pub spelled_within : (text : List ℕ) (most cap k : ℕ) (r : Option ℕ) → most < 2 ^ 32 → cap ≡ most + 1 → Decimal text × (k ≡ min cap (digits_value 10 text)) → MatchOption r (most < k) (λ x. (x ≤ most) × (x ≡ k)) → Spelled (λ n. n ≤ most) decimal text r

@@ -2,13 +2,15 @@
 --
 --   front m text          the text before the first byte m
 --   rest m text           the text from that byte on, empty where there is none
+--   lacks m text          no byte is m
+--   opens m text          it is empty, or its first byte is m
 --   Decimal text          decimal digits without leading zeros; `0` alone is one
 --   ReadCapped c text r   READING answers r: the number that the text writes, or c for any larger number; none if it is not decimal
 --   Spelled P f text r    READING answers r: the text is f of what is read, of which P holds; none where it is f of nothing like this
 --   Converted C text r    READING answers r: what C makes of the number below 2^32 that the text spells; none where it spells none, or C refuses it
 --
 -- Assumes nothing.
-use Rattle.std.specs.Prelude.{◌≡◌, ℕ, ◌^◌, ◌<◌, min, cond, List, [], ◌∷◌, length, Ok, Err, Option, Result, MatchOption, ◌==◌, ◌≢◌, decimal, slice_index}
+use Rattle.std.specs.Prelude.{◌≡◌, ℕ, ◌^◌, ◌<◌, min, Bool, true, cond, not, ◌&&◌, List, [], ◌∷◌, length, Ok, Err, Option, Result, MatchOption, ◌==◌, ◌≢◌, decimal, slice_index}
 use Rattle.std.specs.Str.Parse.{IsNumeral, digits_value}
 
 unfoldable pub front : ℕ → List ℕ → List ℕ
@@ -18,6 +20,14 @@ front m (b ∷ bs) = cond (b == m) [] (b ∷ front m bs)
 unfoldable pub rest : ℕ → List ℕ → List ℕ
 rest m [] = []
 rest m (b ∷ bs) = cond (b == m) (b ∷ bs) (rest m bs)
+
+abbrev pub lacks : ℕ → List ℕ → Bool
+lacks m [] = true
+lacks m (b ∷ bs) = not (b == m) && lacks m bs
+
+abbrev pub opens : ℕ → List ℕ → Bool
+opens m [] = true
+opens m (b ∷ bs) = b == m
 
 abbrev pub Decimal : List ℕ → Type 0
 Decimal text = IsNumeral 10 text × (slice_index text 0 ≡ 48 → length text ≡ 1)

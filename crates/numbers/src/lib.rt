@@ -33,10 +33,16 @@ pub fn read_capped(text: &[u8], cap: u64) -> Option<u64>
     Some(number)
 }
 
+// The most decimal digits that a u32 has: a longer text without leading zeros is above every `most`, however long.
+const MOST_DIGITS: usize = 10;
+
 // The number that the text writes in decimal digits without leading zeros, if it is at most `most`.
 pub fn read_number(text: &[u8], most: u32) -> Option<u32>
     ensures { Spelled (λ n. n ≤ most) decimal text.now result }
 {
+    if text.len() > MOST_DIGITS {
+        return None;
+    }
     let number = read_capped(text, u64::from(most) + 1)?;
     u32::try_from(number).ok().filter(|number| *number <= most)
 }
