@@ -1,10 +1,13 @@
 -- A line as groups of two digits, with one blank between. Assumes nothing.
-use Rattle.std.proofs.Common.{◌≡◌, ◌≢◌, ℕ, zero, suc, ◌+◌, ◌-◌, ◌*◌, ◌^◌, ◌/◌, ◌%◌, ◌<◌, ◌≤◌, false, true, List, [], ◌∷◌, ◌++◌, length, get_or, take, drop, subst, sym, refl, ap, ◌∙◌, arith, append_assoc, length-append, length-drop}
+use Rattle.std.proofs.Common.{◌≡◌, ◌≢◌, ℕ, zero, suc, ◌+◌, ◌-◌, ◌*◌, ◌^◌, ◌/◌, ◌%◌, ◌<◌, ◌≤◌, false, true, List, [], ◌∷◌, ◌++◌, length, get_or, take, drop, subst, sym, refl, ap, ◌∙◌, arith, append_assoc, length-append, length-drop, set}
 use Rattle.std.proofs.lemmas.Fmt.{hex_byte}
 use Rattle.std.specs.Fmt.{padded_integral, format_spec, digits}
 use Rattle.std.proofs.lemmas.List.{take_more, take_all, take_at, take-append-drop, drop_more, get_or-drop, length-take-le, nil_from_length}
 use Rattle.std.proofs.lemmas.Bool.Decides.{nat_tests}
+use Rattle.std.proofs.Math.Seq.{take-suc-set}
+use Rattle.std.proofs.Math.ListN.{length-set}
 use Rattle.std.specs.Simd.{first_chunks}
+use Rattle.std.specs.Str.{IsAscii}
 use Rattle.hex_text.specs.Spelled.{Bytes, digit, pair, blanked, spelled}
 
 pub length_blanked : (bs : List ℕ) → length (blanked bs) ≡ 3 * length bs
@@ -131,6 +134,32 @@ two_digits b fits = hex_byte true b fits
 
 pub blanked_more : (bs : List ℕ) (i : ℕ) → i < length bs → blanked (take (i + 1) bs) ≡ blanked (take i bs) ++ blanked (get_or bs i 0 ∷ [])
 blanked_more bs i h = ap blanked (take_more bs i 0 h) ∙ blanked_append (take i bs) (get_or bs i 0 ∷ [])
+
+-- one byte more is laid
+pub laid_more : (text bytes : List ℕ) (i end b high low : ℕ) → i < length bytes → end ≡ 3 * i → end + 2 < length text → high ≡ digit (get_or bytes i 0 / 16) → low ≡ digit (get_or bytes i 0 % 16) → take (3 * i) text ≡ blanked (take i bytes) → take (3 * (i + 1)) (set (set (set text end 32) (end + 1) high) (end + 2) low) ≡ blanked (take (i + 1) bytes)
+unfolding blanked
+laid_more text bytes i end b high low h at room e1 e2 before =
+    let one = set text end 32 in
+    let two = set one (end + 1) high in
+    let n : 3 * (i + 1) ≡ suc (end + 2) = omega arith in
+    let third = take-suc-set two (end + 2) low (omega (arith, length-set one (end + 1) high, length-set text end 32)) in
+    let second = take-suc-set one (end + 1) high (omega (arith, length-set text end 32)) in
+    let first = take-suc-set text end 32 (omega arith) in
+    let k1 : end + 1 ≡ suc end = omega arith in
+    let k2 : end + 2 ≡ suc (end + 1) = omega arith in
+    ap (λ m. take m (set two (end + 2) low)) n ∙ third ∙ ap (λ l. l ++ low ∷ []) (ap (λ m. take m two) k2 ∙ second ∙ ap (λ l. l ++ high ∷ []) (ap (λ m. take m one) k1 ∙ first ∙ ap (λ l. l ++ 32 ∷ []) (ap (λ m. take m text) at ∙ before))) ∙ append_assoc (blanked (take i bytes) ++ 32 ∷ []) (high ∷ []) (low ∷ []) ∙ append_assoc (blanked (take i bytes)) (32 ∷ []) (high ∷ low ∷ []) ∙ ap (λ x. blanked (take i bytes) ++ 32 ∷ x ∷ low ∷ []) e1 ∙ ap (λ x. blanked (take i bytes) ++ 32 ∷ digit (get_or bytes i 0 / 16) ∷ x ∷ []) e2 ∙ sym (blanked_more bytes i h)
+
+small_digit : (n : ℕ) → n < 16 → digit n < 128
+small_digit n h = grind (arith, nat_tests)
+
+-- what is laid is text
+pub ascii_blanked : (bs : List ℕ) → Bytes bs → IsAscii (blanked bs)
+unfolding blanked
+ascii_blanked [] fit i = omega arith
+ascii_blanked (b ∷ bs) fit zero = omega arith
+ascii_blanked (b ∷ bs) fit (suc zero) = let h = fit 0 in small_digit (b / 16) (omega arith)
+ascii_blanked (b ∷ bs) fit (suc (suc zero)) = small_digit (b % 16) (omega arith)
+ascii_blanked (b ∷ bs) fit (suc (suc (suc i))) = ascii_blanked bs (λ k. fit (suc k)) i
 
 pub bytes_push : (bs : List ℕ) (b : ℕ) → Bytes bs → b < 256 → Bytes (bs ++ b ∷ [])
 bytes_push [] b fit h zero = h

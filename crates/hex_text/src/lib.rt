@@ -1,12 +1,13 @@
 // Bytes as text: two uppercase hexadecimal digits each, with one blank between.
 #![tactic(auto)]
 
-ghost use Rattle.std.specs.Prelude.{◌≡◌, [], ◌∷◌, IfOk, Some, string_bytes};
+ghost use Rattle.std.specs.Prelude.{◌≡◌, ◌*◌, ◌<◌, ◌≤◌, [], ◌∷◌, length, take, IfOk, Some, string_bytes};
+ghost use Rattle.std.specs.Str.{IsAscii};
 ghost use Rattle.hex_text.specs.declared.HexFault.TheVariants.{NoMemory};
-ghost use Rattle.hex_text.specs.Spelled.{DigitOf, ByteOf, Parsed, blanked};
+ghost use Rattle.hex_text.specs.Spelled.{DigitOf, ByteOf, Parsed, blanked, digit};
 
 use std::alloc::{AllocError, AllocFailed, Global};
-use std::fmt;
+use std::{fmt, str};
 
 #[derive(Clone, Copy, Debug, PartialEq, Eq)]
 pub enum HexFault {
@@ -78,13 +79,48 @@ pub fn parse(heap: Global, line: &[u8]) -> Result<Vec<u8>, HexFault>
 #[derive(Clone, Copy, Debug)]
 pub struct Blanked<'a>(pub &'a [u8]);
 
-// Written out, since the clause of `spell_blanked` relies on what it prints, its `ghost output`.
+// The uppercase digit of a number below 16.
+fn digit_of(number: u8) -> u8
+    requires { number < 16 }
+    ensures { result ≡ digit number }
+{
+    if number < 10 {
+        b'0' + number
+    } else {
+        b'A' + (number - 10)
+    }
+}
+
+// Lays a blank and two digits for each byte at the front of the text, and tells how much of it that takes.
+fn lay(bytes: &[u8], text: &mut [u8; 96]) -> usize
+    requires { length bytes.now ≤ 32 }
+    ensures size { result ≡ 3 * length bytes.now }
+    ensures laid { take (3 * length bytes.now) text.new ≡ blanked bytes.now }
+    ensures ascii { IsAscii (blanked bytes.now) }
+{
+    let mut end = 0;
+    for byte in bytes {
+        text[end] = b' ';
+        text[end + 1] = digit_of(*byte / 16);
+        text[end + 2] = digit_of(*byte % 16);
+        end += 3;
+    }
+    end
+}
+
+// Written out, since the clause of `spell_blanked` relies on what it prints, its `ghost output`. The bytes are laid and
+// written many at a time: a formatter takes each piece of text by itself.
 impl fmt::Display for Blanked<'_> {
     ghost output = { λ x. Some (blanked x.0.now) };
 
     fn fmt<W: fmt::Write>(&self, f: &mut fmt::Formatter<W>) -> fmt::Result {
-        for &byte in self.0 {
-            write!(f, " {byte:02X}")?;
+        let mut text = [b' '; 96];
+        for part in self.0.chunks(32) {
+            let end = lay(part, &mut text);
+            let Ok(laid) = str::from_utf8(&text[..end]) else {
+                unreachable!();
+            };
+            f.write_str(laid)?;
         }
         Ok(())
     }
