@@ -43,11 +43,16 @@ unfolding entry_of
 whole x =
     ap (λ y. bit_steps 8 y 0) (sym (split x)) ∙ bits_xor 8 (x % 256) (x / 256 * 256) ∙ ap (λ y. bit_xor y (x / 256 * 256 / 256)) (bits_high 8 (x % 256) (x / 256)) ∙ ap (bit_xor (bit_steps 8 (x % 256) 0)) (shl-shr (x / 256) 8) ∙ xor_comm (bit_steps 8 (x % 256) 0) (x / 256)
 
--- a byte: the high byte of the mixed register, with the entry of its low byte
-pub by_table : (reg b : ℕ) → reg < 65536 → b < 256 → byte_step reg b ≡ bit_xor (bit_xor reg b / 256 % 256) (entry_of (bit_xor reg b % 256))
+-- a byte
+pub by_table : (reg b : ℕ) → b < 256 → byte_step reg b ≡ bit_xor (bit_xor reg b / 256) (entry_of (bit_xor reg b % 256))
 unfolding byte_step
-by_table reg b wide lt =
+by_table reg b lt =
     let none : b / 256 ≡ 0 = omega arith in
+    sym (xor_zero_r (bit_steps 8 reg b)) ∙ ap (bit_xor (bit_steps 8 reg b)) (sym none) ∙ sym (bits_xor 8 reg b) ∙ whole (bit_xor reg b)
+
+-- the same of a register of 16 bits, which is mixed and taken apart into its two bytes
+pub by_table_of_bytes : (reg b : ℕ) → reg < 65536 → b < 256 → byte_step reg b ≡ bit_xor (bit_xor reg b / 256 % 256) (entry_of (bit_xor reg b % 256))
+by_table_of_bytes reg b wide lt =
     let fits : bit_xor reg b < 2 ^ 16 = xor_lt 16 reg b wide (omega arith) in
     let high : bit_xor reg b / 256 % 256 ≡ bit_xor reg b / 256 = omega arith in
-    rw high (sym (xor_zero_r (bit_steps 8 reg b)) ∙ ap (bit_xor (bit_steps 8 reg b)) (sym none) ∙ sym (bits_xor 8 reg b) ∙ whole (bit_xor reg b))
+    rw high (by_table reg b lt)

@@ -9,7 +9,7 @@ mod table;
 use table::entry;
 
 // The register after one more byte.
-#[tactic(auto, using(crate::proofs::Linear::by_table))]
+#[tactic(auto, using(crate::proofs::Linear::by_table_of_bytes))]
 fn step(register: u16, byte: u8) -> u16
     ensures { result ≡ byte_step register byte }
 {
