@@ -1,4 +1,4 @@
-use Rattle.std.proofs.Common.{length, get_or, take, set, ap, ◌∙◌, rules, arith}
+use Rattle.std.proofs.Common.{get_or, take, ap, ◌∙◌, rules, arith}
 use Rattle.std.proofs.Math.ListN.{length-set}
 use Rattle.std.proofs.lemmas.List.{take_all}
 use Rattle.hex_text.specs.Spelled.{blanked}

@@ -1,7 +1,7 @@
-use Rattle.std.proofs.Common.{◌≡◌, ℕ, ◌/◌, ◌%◌, ◌<◌, List, [], ◌∷◌, ◌++◌, length, get_or, take, vec_items, sym, ap, ◌∙◌, subst, rules, arith, Err, refl}
+use Rattle.std.proofs.Common.{◌≡◌, ℕ, ◌%◌, ◌<◌, [], ◌∷◌, length, get_or, take, vec_items, sym, ap, ◌∙◌, subst, rules, arith, Err, refl}
 use Rattle.hex_text.specs.declared.HexFault.TheVariants.{NotHex}
-use Rattle.hex_text.specs.Spelled.{Bytes, Parsed, pair, blanked}
-use Rattle.hex_text.proofs.Groups.{nothing_spelled, counted, Cut, cut_of, none_first, first_read, group_read, none_spelled, all_read, bytes_push, two_long, three_long}
+use Rattle.hex_text.specs.Spelled.{Bytes, Parsed, pair}
+use Rattle.hex_text.proofs.Groups.{nothing_spelled, counted, cut_of, none_first, first_read, group_read, none_spelled, all_read, bytes_push, two_long, three_long}
 use Rattle.hex_text.proofs.parse.Goals as goal
 use Rattle.hex_text.proofs.parse.Goals.{in_default-via-then-as_rchunks-lt2, in_default-via-else-as_rchunks-lt2+else-this-lt3}
 

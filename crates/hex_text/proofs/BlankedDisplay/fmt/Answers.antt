@@ -3,7 +3,6 @@ use Rattle.std.proofs.Output.{has_written_append, has_written_of_eq}
 use Rattle.std.proofs.lemmas.List.{nil_from_length}
 use Rattle.std.proofs.lemmas.Str.{IsUtf8-from_ascii}
 use Rattle.std.specs.Slice.Iter.{chunks_rest}
-use Rattle.std.specs.Str.{IsUtf8}
 use Rattle.hex_text.specs.Spelled.{blanked}
 use Rattle.hex_text.proofs.Groups.{blanked_append}
 use Rattle.hex_text.proofs.BlankedDisplay.fmt.Goals as goal
