@@ -59,41 +59,43 @@ chunk_length zero xs i n h = absurd (omega arith)
 chunk_length (suc k) xs zero n h = length-take-le 3 xs (omega arith)
 chunk_length (suc k) xs (suc i) n h = chunk_length k (drop 3 xs) i (omega (arith, length-drop 3 xs)) (omega arith)
 
--- a line is cut into what is over and groups of three
-pub record Cut (line first : List ℕ) (groups : List (List ℕ)) : Type 0 where
-  pub whole : line ≡ first ++ joined groups
-  pub over : first ≡ take (length line % 3) line
+-- what a line begins with, before groups of three
+abbrev pub over : List ℕ → List ℕ
+over line = take (length line % 3) line
+
+-- a line is what is over, and groups of three
+pub record Cut (line : List ℕ) (groups : List (List ℕ)) : Type 0 where
+  pub whole : line ≡ over line ++ joined groups
   pub three : (i : ℕ) → i < length groups → length (get_or groups i []) ≡ 3
 
-pub cut_of : (line first : List ℕ) (groups : List (List ℕ)) → first ≡ take (length line % 3) line → groups ≡ first_chunks 3 (length line / 3) (drop (length line % 3) line) → length groups ≡ length line / 3 → Cut line first groups
-cut_of line first groups f g n =
+pub cut_of : (line : List ℕ) (groups : List (List ℕ)) → groups ≡ first_chunks 3 (length line / 3) (drop (length line % 3) line) → length groups ≡ length line / 3 → Cut line groups
+cut_of line groups g n =
     let k : length line / 3 * 3 ≡ length (drop (length line % 3) line) = omega (arith, length-drop (length line % 3) line) in
     record {
-      whole = sym (ap (λ l. l ++ joined groups) f ∙ ap (λ l. take (length line % 3) line ++ joined l) g ∙ ap (λ l. take (length line % 3) line ++ l) (joined_chunks (length line / 3) (drop (length line % 3) line) k) ∙ take-append-drop (length line % 3) line);
-      over = f;
+      whole = sym (ap (λ l. over line ++ joined l) g ∙ ap (λ l. over line ++ l) (joined_chunks (length line / 3) (drop (length line % 3) line) k) ∙ take-append-drop (length line % 3) line);
       three = λ i h. ap (λ l. length (get_or l i [])) g ∙ chunk_length (length line / 3) (drop (length line % 3) line) i k (omega arith);
     }
 
 -- the first digits of a line are not those of a byte
-pub none_first : (line first : List ℕ) → 0 < length line → first ≡ take (length line % 3) line → ((b : ℕ) → b < 256 → first ≢ pair b) → (bs : List ℕ) → Bytes bs → line ≢ spelled bs
+pub none_first : (line : List ℕ) → 0 < length line → ((b : ℕ) → b < 256 → over line ≢ pair b) → (bs : List ℕ) → Bytes bs → line ≢ spelled bs
 unfolding blanked
-none_first line first some over none [] fit is = absurd (omega (arith, ap length is))
-none_first line first some over none (b ∷ bs) fit is =
+none_first line some none [] fit is = absurd (omega (arith, ap length is))
+none_first line some none (b ∷ bs) fit is =
     let n = ap length is in
     let two : length line % 3 ≡ 2 = omega (arith, length_blanked bs) in
-    none b (fit 0) (over ∙ ap (λ k. take k line) two ∙ ap (take 2) is)
+    none b (fit 0) (ap (λ k. take k line) two ∙ ap (take 2) is)
 
 -- the first byte is read
 pub first_read : (first : List ℕ) (groups : List (List ℕ)) (items : List ℕ) (b : ℕ) → first ≡ pair b → items ≡ b ∷ [] → 32 ∷ first ++ joined (take 0 groups) ≡ blanked items
 unfolding blanked joined
 first_read first groups items b is e = ap (λ l. 32 ∷ l ++ []) is ∙ ap blanked (sym e)
 
-module _ (line first : List ℕ) (groups : List (List ℕ)) (cut : Cut line first groups) (items : List ℕ) (i : ℕ) (read : 32 ∷ first ++ joined (take i groups) ≡ blanked items) where
+module _ (line : List ℕ) (groups : List (List ℕ)) (cut : Cut line groups) (items : List ℕ) (i : ℕ) (read : 32 ∷ over line ++ joined (take i groups) ≡ blanked items) where
   -- one byte more is read
-  pub group_read : (digits items' : List ℕ) (b : ℕ) → i < length groups → get_or groups i [] ≡ 32 ∷ digits → digits ≡ pair b → items' ≡ items ++ b ∷ [] → 32 ∷ first ++ joined (take (i + 1) groups) ≡ blanked items'
+  pub group_read : (digits items' : List ℕ) (b : ℕ) → i < length groups → get_or groups i [] ≡ 32 ∷ digits → digits ≡ pair b → items' ≡ items ++ b ∷ [] → 32 ∷ over line ++ joined (take (i + 1) groups) ≡ blanked items'
   unfolding blanked joined
   group_read digits items' b h group is e =
-      ap (λ l. 32 ∷ first ++ joined l) (take_more groups i [] h) ∙ ap (λ l. 32 ∷ first ++ l) (joined_append (take i groups) (get_or groups i [] ∷ [])) ∙ sym (append_assoc (32 ∷ first) (joined (take i groups)) (get_or groups i [] ++ [])) ∙ ap (λ l. l ++ (get_or groups i [] ++ [])) read ∙ ap (λ l. blanked items ++ (l ++ [])) (group ∙ ap (λ l. 32 ∷ l) is) ∙ sym (blanked_append items (b ∷ [])) ∙ ap blanked (sym e)
+      ap (λ l. 32 ∷ over line ++ joined l) (take_more groups i [] h) ∙ ap (λ l. 32 ∷ over line ++ l) (joined_append (take i groups) (get_or groups i [] ∷ [])) ∙ sym (append_assoc (32 ∷ over line) (joined (take i groups)) (get_or groups i [] ++ [])) ∙ ap (λ l. l ++ (get_or groups i [] ++ [])) read ∙ ap (λ l. blanked items ++ (l ++ [])) (group ∙ ap (λ l. 32 ∷ l) is) ∙ sym (blanked_append items (b ∷ [])) ∙ ap blanked (sym e)
 
   -- a group that is not a blank and the digits of a byte
   pub none_spelled : i < length groups → 0 < length line → ((b : ℕ) → b < 256 → get_or groups i [] ≢ 32 ∷ pair b) → (bs : List ℕ) → Bytes bs → line ≢ spelled bs
@@ -106,7 +108,7 @@ module _ (line first : List ℕ) (groups : List (List ℕ)) (cut : Cut line firs
 
       rest : 32 ∷ line ≡ blanked items ++ (get_or groups i [] ++ more)
       rest =
-          ap (λ l. 32 ∷ l) cut.whole ∙ ap (λ l. 32 ∷ first ++ joined l) (sym (take-append-drop i groups)) ∙ ap (λ l. 32 ∷ first ++ l) (joined_append (take i groups) (drop i groups)) ∙ sym (append_assoc (32 ∷ first) (joined (take i groups)) (joined (drop i groups))) ∙ ap (λ l. l ++ joined (drop i groups)) read ∙ ap (λ l. blanked items ++ joined l) (drop_more groups i [] h)
+          ap (λ l. 32 ∷ l) cut.whole ∙ ap (λ l. 32 ∷ over line ++ joined l) (sym (take-append-drop i groups)) ∙ ap (λ l. 32 ∷ over line ++ l) (joined_append (take i groups) (drop i groups)) ∙ sym (append_assoc (32 ∷ over line) (joined (take i groups)) (joined (drop i groups))) ∙ ap (λ l. l ++ joined (drop i groups)) read ∙ ap (λ l. blanked items ++ joined l) (drop_more groups i [] h)
 
       left : (items bs : List ℕ) → blanked items ++ (get_or groups i [] ++ more) ≡ blanked bs → get_or groups i [] ++ more ≡ blanked (drop (length items) bs)
       left [] bs e = e
@@ -119,9 +121,9 @@ module _ (line first : List ℕ) (groups : List (List ℕ)) (cut : Cut line firs
           none b (fit 0) (sym (take_at (get_or groups i []) more 3 (cut.three i h)) ∙ ap (take 3) e)
 
 -- all bytes are read
-pub all_read : (line first : List ℕ) (groups : List (List ℕ)) (items : List ℕ) (i : ℕ) → Cut line first groups → length groups ≤ i → 32 ∷ first ++ joined (take i groups) ≡ blanked items → line ≡ spelled items
-all_read line first groups items i cut end read =
-    ap (drop 1) (ap (λ l. 32 ∷ l) (cut.whole ∙ ap (λ l. first ++ joined l) (sym (take_all i groups end))) ∙ read)
+pub all_read : (line : List ℕ) (groups : List (List ℕ)) (items : List ℕ) (i : ℕ) → Cut line groups → length groups ≤ i → 32 ∷ over line ++ joined (take i groups) ≡ blanked items → line ≡ spelled items
+all_read line groups items i cut end read =
+    ap (drop 1) (ap (λ l. 32 ∷ l) (cut.whole ∙ ap (λ l. over line ++ joined l) (sym (take_all i groups end))) ∙ read)
 
 pub nothing_spelled : (line items : List ℕ) → length line ≡ 0 → items ≡ [] → Bytes items × (line ≡ spelled items)
 unfolding blanked

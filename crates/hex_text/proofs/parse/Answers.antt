@@ -1,7 +1,7 @@
-use Rattle.std.proofs.Common.{◌≡◌, ℕ, ◌%◌, ◌<◌, [], ◌∷◌, length, get_or, take, vec_items, sym, ap, ◌∙◌, subst, rules, arith, Err, refl}
+use Rattle.std.proofs.Common.{◌≡◌, ℕ, ◌<◌, [], ◌∷◌, get_or, vec_items, sym, ap, ◌∙◌, subst, rules, arith, Err}
 use Rattle.hex_text.specs.declared.HexFault.TheVariants.{NotHex}
 use Rattle.hex_text.specs.Spelled.{Bytes, Parsed, pair}
-use Rattle.hex_text.proofs.Groups.{nothing_spelled, counted, cut_of, none_first, first_read, group_read, none_spelled, all_read, bytes_push, two_long, three_long}
+use Rattle.hex_text.proofs.Groups.{nothing_spelled, counted, cut_of, none_first, first_read, group_read, none_spelled, all_read, bytes_push, two_long, three_long, over}
 use Rattle.hex_text.proofs.parse.Goals as goal
 use Rattle.hex_text.proofs.parse.Goals.{in_default-via-then-as_rchunks-lt2, in_default-via-else-as_rchunks-lt2+else-this-lt3}
 
@@ -24,7 +24,7 @@ returns-in_err-first c =
     let n = c.as_rchunks.ensures.front_len in
     let e : c.from_residual.result ≡ Err NotHex = search rules in
     let none : (b : ℕ) → b < 256 → (get_or first 0 0 ∷ get_or first 1 0 ∷ [] ≡ pair b) → ⊥ = search rules in
-    subst (Parsed line) (sym e) (none_first line first (search rules) c.as_rchunks.ensures.front (λ b h is. none b h (ap (λ l. get_or l 0 0 ∷ get_or l 1 0 ∷ []) is)))
+    subst (Parsed line) (sym e) (none_first line (search rules) (λ b h is. none b h (ap (λ l. get_or l 0 0 ∷ get_or l 1 0 ∷ []) (c.as_rchunks.ensures.front ∙ is))))
 
 pub loop-group-init : goal.loop-group-init
 loop-group-init c =
@@ -36,30 +36,30 @@ loop-group-init c =
     let is : get_or first 0 0 ∷ get_or first 1 0 ∷ [] ≡ pair c.in_ok-first.first = search rules in
     record {
       fit = subst Bytes (sym pushed) (bytes_push [] c.in_ok-first.first (λ k. omega arith) small);
-      read = first_read (take (length line % 3) line) c.as_rchunks.result.1.now _ c.in_ok-first.first (sym c.as_rchunks.ensures.front ∙ two_long first (omega (arith, c.in-len2-default.len_at_least, c.in-len2-default.len_below)) ∙ is) pushed;
+      read = first_read (over line) c.as_rchunks.result.1.now _ c.in_ok-first.first (sym c.as_rchunks.ensures.front ∙ two_long first (omega (arith, c.in-len2-default.len_at_least, c.in-len2-default.len_below)) ∙ is) pushed;
     }
 
 pub returns-in_default-group : goal.returns-in_default-group
 returns-in_default-group c bs fit is =
     let line = c.args.line.now in
-    let cut = cut_of line (take (length line % 3) line) c.as_rchunks.result.1.now refl c.as_rchunks.ensures.back c.as_rchunks.ensures.back_len in
-    none_spelled line (take (length line % 3) line) c.as_rchunks.result.1.now cut (vec_items c.loop-group.bytes) c.loop-group.group-index c.loop-group.invariant.read c.loop-group-test.true (search rules) (λ b h e. let at = ap (λ l. get_or l 0 0) e in let w = c.in_default-group in search rules) bs fit is
+    let cut = cut_of line c.as_rchunks.result.1.now c.as_rchunks.ensures.back c.as_rchunks.ensures.back_len in
+    none_spelled line c.as_rchunks.result.1.now cut (vec_items c.loop-group.bytes) c.loop-group.group-index c.loop-group.invariant.read c.loop-group-test.true (search rules) (λ b h e. let at = ap (λ l. get_or l 0 0) e in let w = c.in_default-group in search rules) bs fit is
 
 pub returns-in_err-byte : goal.returns-in_err-byte
 returns-in_err-byte c =
     let line = c.args.line.now in
     let group = get_or c.as_rchunks.result.1.now c.loop-group.group-index [] in
-    let cut = cut_of line (take (length line % 3) line) c.as_rchunks.result.1.now refl c.as_rchunks.ensures.back c.as_rchunks.ensures.back_len in
+    let cut = cut_of line c.as_rchunks.result.1.now c.as_rchunks.ensures.back c.as_rchunks.ensures.back_len in
     let e : c.from_residual-in_err-byte.result ≡ Err NotHex = search rules in
     let none : (b : ℕ) → b < 256 → (get_or group 1 0 ∷ get_or group 2 0 ∷ [] ≡ pair b) → ⊥ = search rules in
     subst (Parsed line) (sym e)
-    (none_spelled line (take (length line % 3) line) c.as_rchunks.result.1.now cut (vec_items c.loop-group.bytes) c.loop-group.group-index c.loop-group.invariant.read c.loop-group-test.true (search rules) (λ b h e. none b h (ap (λ l. get_or l 1 0 ∷ get_or l 2 0 ∷ []) e)))
+    (none_spelled line c.as_rchunks.result.1.now cut (vec_items c.loop-group.bytes) c.loop-group.group-index c.loop-group.invariant.read c.loop-group-test.true (search rules) (λ b h e. none b h (ap (λ l. get_or l 1 0 ∷ get_or l 2 0 ∷ []) e)))
 
 pub loop-group-preserved : goal.loop-group-preserved
 loop-group-preserved c =
     let line = c.args.line.now in
     let group = get_or c.as_rchunks.result.1.now c.loop-group.group-index [] in
-    let cut = cut_of line (take (length line % 3) line) c.as_rchunks.result.1.now refl c.as_rchunks.ensures.back c.as_rchunks.ensures.back_len in
+    let cut = cut_of line c.as_rchunks.result.1.now c.as_rchunks.ensures.back c.as_rchunks.ensures.back_len in
     let pushed = c.in_ok-push-2.ensures.items in
     let items = vec_items c.loop-group.bytes in
     let small : c.in_ok-byte.byte < 256 = search rules in
@@ -67,11 +67,11 @@ loop-group-preserved c =
     let is : get_or group 1 0 ∷ get_or group 2 0 ∷ [] ≡ pair c.in_ok-byte.byte = search rules in
     record {
       fit = subst Bytes (sym pushed) (bytes_push items c.in_ok-byte.byte c.loop-group.invariant.fit small);
-      read = group_read line (take (length line % 3) line) c.as_rchunks.result.1.now cut items c.loop-group.group-index c.loop-group.invariant.read (get_or group 1 0 ∷ get_or group 2 0 ∷ []) _ c.in_ok-byte.byte c.loop-group-test.true (three_long group (cut.three c.loop-group.group-index c.loop-group-test.true) ∙ ap (λ x. x ∷ get_or group 1 0 ∷ get_or group 2 0 ∷ []) blank) is pushed;
+      read = group_read line c.as_rchunks.result.1.now cut items c.loop-group.group-index c.loop-group.invariant.read (get_or group 1 0 ∷ get_or group 2 0 ∷ []) _ c.in_ok-byte.byte c.loop-group-test.true (three_long group (cut.three c.loop-group.group-index c.loop-group-test.true) ∙ ap (λ x. x ∷ get_or group 1 0 ∷ get_or group 2 0 ∷ []) blank) is pushed;
     }
 
 pub returns : goal.returns
 returns c =
     let line = c.args.line.now in
-    let cut = cut_of line (take (length line % 3) line) c.as_rchunks.result.1.now refl c.as_rchunks.ensures.back c.as_rchunks.ensures.back_len in
-    (c.loop-group.invariant.fit, all_read line (take (length line % 3) line) c.as_rchunks.result.1.now _ c.loop-group.group-index cut c.loop-group-test.false c.loop-group.invariant.read)
+    let cut = cut_of line c.as_rchunks.result.1.now c.as_rchunks.ensures.back c.as_rchunks.ensures.back_len in
+    (c.loop-group.invariant.fit, all_read line c.as_rchunks.result.1.now _ c.loop-group.group-index cut c.loop-group-test.false c.loop-group.invariant.read)
